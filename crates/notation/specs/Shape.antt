@@ -1,0 +1,26 @@
+-- The shape of what reading writes: which literals a triplet and the root may name.
+use Prim.Native.Nat.{ℕ, _+_, _*_, _/_, _≤_, _<_}
+use mathlib.Core.Logic.{_⊎_}
+use mathlib.Core.List.{List, [], _∷_}
+use lib.ListN.{length, getD}
+use Rattle.notation.specs.Triplets.{Triplet, tripletVariable}
+
+-- the literal l is, with either sign, true, a flag of 1 to n, or one of the first c triplets
+abbrev pub Names : ℕ → ℕ → ℕ → Type 0
+Names n c l = (l / 2 ≤ n) ⊎ ((tripletVariable 0 < l / 2) × (l / 2 ≤ tripletVariable c))
+
+-- triplet j, counted from 0, as three numbers of a list
+abbrev pub kindAt : List ℕ → ℕ → ℕ
+kindAt xs j = getD xs (3 * j) 0
+
+abbrev pub yAt : List ℕ → ℕ → ℕ
+yAt xs j = getD xs (3 * j + 1) 0
+
+abbrev pub zAt : List ℕ → ℕ → ℕ
+zAt xs j = getD xs (3 * j + 2) 0
+
+-- the numbers xs are c triplets over n flags: each of kind 0 or 1, its operands known before it
+pub record Shape (n c : ℕ) (xs : List ℕ) : Type 0 where
+  pub kinds : (j : ℕ) → j < c → kindAt xs j ≤ 1
+  pub ys : (j : ℕ) → j < c → Names n j (yAt xs j)
+  pub zs : (j : ℕ) → j < c → Names n j (zAt xs j)

@@ -1,0 +1,2 @@
+// Trestulan's reader.
+pub fn nothing() {}
