@@ -1,0 +1,2 @@
+// Relations of literals.
+pub fn nothing() {}
