@@ -4,26 +4,26 @@ use mathlib.Core.Bool.{Bool, true, false}
 use mathlib.Core.List.{List, [], _∷_}
 use Rattle.notation.specs.Ceilings.{connectiveCeiling, bracketCeiling}
 use Rattle.notation.specs.Tokens.{Code, Sign, same, implies, or, and, Token, Tokens, stray, long, code, hash, bang, sign, opening, closing, end, at, choose}
-use Rattle.notation.specs.Walk.{sameCode, seen}
+use Rattle.notation.specs.Walk.{sameCode, Flag, seen}
 use Rattle.notation.specs.Guard.{Guard, flag, truth, negated, joined}
 
 -- what a level reads from the front of the tokens: a guard, the codes seen by then and the tokens left
 pub data Parsed : Type 0 where
   none : Parsed
-  found : Guard → List Code → Tokens → Parsed
+  found : Guard → List Flag → Tokens → Parsed
 
 abbrev pub Level : Type 0
-Level = List Code → Tokens → Parsed
+Level = List Flag → Tokens → Parsed
 
 -- go on with what was found
 unfoldable pub follow : Parsed → (Guard → Level) → Parsed
 follow none next = none
 follow (found g u ts) next = next g u ts
 
--- the number of a flag: the place of its code among the codes seen, counted from 1
-unfoldable pub number : Code → List Code → ℕ
-number c [] = 0
-number c (d ∷ u) = choose (sameCode c d) 1 (suc (number c u))
+-- the number of a flag: its place among the codes seen, counted from 1, or the next number where it is new
+unfoldable pub number : Code → List Flag → ℕ
+number c [] = 1
+number c (f ∷ u) = choose (sameCode c (f .name)) 1 (suc (number c u))
 
 -- the two signs are the same
 unfoldable pub sameSign : Sign → Sign → Bool
@@ -87,9 +87,17 @@ unfoldable pub rightLevel : Sign → Level → Level
 rightLevel s next u ts = toTheRight s next connectiveCeiling u ts
 
 -- from loosest to tightest: `=`, `>`, `|`, `&`, operands
-unfoldable pub levels : Level → Level
-levels operand =
-    leftLevel same (λ u ts. rightLevel implies (λ v us. leftLevel or (λ w vs. leftLevel and operand w vs) v us) u ts)
+unfoldable pub andOf : Level → Level
+andOf operands = leftLevel and operands
+
+unfoldable pub orOf : Level → Level
+orOf operands = leftLevel or (andOf operands)
+
+unfoldable pub impliesOf : Level → Level
+impliesOf operands = rightLevel implies (orOf operands)
+
+unfoldable pub sameOf : Level → Level
+sameOf operands = leftLevel same (impliesOf operands)
 
 -- a guard that was found before a closing bracket
 unfoldable pub closed : Guard → Level
@@ -108,7 +116,7 @@ unfoldable pub operandOf : Level → Level
 operandOf inner u (end p) = none
 operandOf inner u (at p stray ts) = none
 operandOf inner u (at p long ts) = none
-operandOf inner u (at p (code c) ts) = found (flag (number c (seen c u))) (seen c u) ts
+operandOf inner u (at p (code c) ts) = found (flag (number c u)) (seen p c u) ts
 operandOf inner u (at p (hash b) ts) = found (truth b) u ts
 operandOf inner u (at p bang ts) = follow (operandOf inner u ts) (λ g v us. found (negated g) v us)
 operandOf inner u (at p (sign s) ts) = none
@@ -117,8 +125,8 @@ operandOf inner u (at p closing ts) = none
 
 -- a guard in which brackets stand at most d deep; a bracketed guard is an operand again
 unfoldable pub guardAt : ℕ → Level
-guardAt zero u ts = levels (λ v us. operandOf (λ w vs. none) v us) u ts
-guardAt (suc d) u ts = levels (λ v us. operandOf (λ w vs. guardAt d w vs) v us) u ts
+guardAt zero u ts = sameOf (λ v us. operandOf (λ w vs. none) v us) u ts
+guardAt (suc d) u ts = sameOf (λ v us. operandOf (λ w vs. guardAt d w vs) v us) u ts
 
 -- the tree that was found
 unfoldable pub treeOf : Parsed → Guard

@@ -6,3 +6,4 @@ pub mod Grammar
 pub mod Triplets
 pub mod Reading
 pub mod Shape
+pub mod Cut
