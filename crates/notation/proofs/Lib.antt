@@ -1,3 +1,4 @@
 pub mod Table
 pub mod Cutting
+pub mod Coding
 pub mod Examples
