@@ -1,4 +1,5 @@
 pub mod Table
 pub mod Cutting
 pub mod Coding
+pub mod Writing
 pub mod Examples
