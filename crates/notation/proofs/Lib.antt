@@ -2,4 +2,5 @@ pub mod Table
 pub mod Cutting
 pub mod Coding
 pub mod Writing
+pub mod Leveling
 pub mod Examples
