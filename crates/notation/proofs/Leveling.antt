@@ -103,23 +103,25 @@ module _ (s : Sign) (next : Level) (d k : ℕ) (u₀ : List Flag) (m₀ : ℕ) (
   pub chain-first : {g : Guard} {u : List Flag} {m : ℕ} {ts : Tokens} → Reads (plain next) d k u₀ m₀ ts₀ g u m ts → Chain s next d k u₀ m₀ ts₀ g u m ts
   unfolding leftLevel follow
   chain-first r = record {
-      room = connectiveCeiling;
-      enough = omega arith;
-      parsed = rw (r .parsed connectiveCeiling (omega arith));
-      walked = r .walked;
-      signs = r .signs;
-      stops = r .stops }
+    room = connectiveCeiling;
+    enough = omega arith;
+    parsed = rw (r .parsed connectiveCeiling (omega arith));
+    walked = r .walked;
+    signs = r .signs;
+    stops = r .stops;
+  }
 
   one-more : {g : Guard} {u : List Flag} {m : ℕ} {ts : Tokens} {h : Guard} {v : List Flag} {m′ : ℕ} {us : Tokens} →
       (c : Chain s next d k u₀ m₀ ts₀ g u m ts) → (n : ℕ) → c .room ≡ suc n → signNext s ts ≡ true → m < connectiveCeiling →
       Reads (plain next) d k u (m + 1) (past ts) h v m′ us → Chain s next d k u₀ m₀ ts₀ (joined s g h) v m′ us
   one-more {g} {u} {m} {ts} {h} {v} {m′} {us} c n q e l r = record {
-      room = n;
-      enough = omega (arith, c .enough, r .signs);
-      parsed = c .parsed ∙ ap (λ (x : ℕ). toTheLeft s next x g u ts) q ∙ left-more s next n g u ts h v us e (r .parsed connectiveCeiling (omega arith));
-      walked = c .walked ∙ past-sign s d u m ts e l ∙ r .walked;
-      signs = omega (arith, c .signs, r .signs, connectives-joined s g h);
-      stops = r .stops }
+    room = n;
+    enough = omega (arith, c .enough, r .signs);
+    parsed = c .parsed ∙ ap (λ (x : ℕ). toTheLeft s next x g u ts) q ∙ left-more s next n g u ts h v us e (r .parsed connectiveCeiling (omega arith));
+    walked = c .walked ∙ past-sign s d u m ts e l ∙ r .walked;
+    signs = omega (arith, c .signs, r .signs, connectives-joined s g h);
+    stops = r .stops;
+  }
 
   -- one more operand
   pub chain-more : {g : Guard} {u : List Flag} {m : ℕ} {ts : Tokens} {h : Guard} {v : List Flag} {m′ : ℕ} {us : Tokens} →
@@ -131,29 +133,32 @@ module _ (s : Sign) (next : Level) (d k : ℕ) (u₀ : List Flag) (m₀ : ℕ) (
   pub chain-done : {g : Guard} {u : List Flag} {m : ℕ} {ts : Tokens} → Chain s next d k u₀ m₀ ts₀ g u m ts → signNext s ts ≡ false → binding s ≡ k + 1 →
       Reads (plain (leftLevel s next)) d (k + 1) u₀ m₀ ts₀ g u m ts
   chain-done {g} {u} {m} {ts} c e b = record {
-      parsed = λ f _. c .parsed ∙ left-done s next (c .room) g u ts e;
-      walked = c .walked;
-      signs = c .signs;
-      stops = stops-more s k ts b e (c .stops) }
+    parsed = λ f _. c .parsed ∙ left-done s next (c .room) g u ts e;
+    walked = c .walked;
+    signs = c .signs;
+    stops = stops-more s k ts b e (c .stops);
+  }
 
   -- a single operand, where the sign that groups to the right does not follow
   pub right-one : {g : Guard} {u : List Flag} {m : ℕ} {ts : Tokens} → Reads (plain next) d k u₀ m₀ ts₀ g u m ts → signNext s ts ≡ false → binding s ≡ k + 1 →
       Reads (toTheRight s next) d (k + 1) u₀ m₀ ts₀ g u m ts
   right-one {g} {u} {m} {ts} r e b = record {
-      parsed = λ f h. right-done s next f u₀ ts₀ g u ts (r .parsed f h) e;
-      walked = r .walked;
-      signs = r .signs;
-      stops = stops-more s k ts b e (r .stops) }
+    parsed = λ f h. right-done s next f u₀ ts₀ g u ts (r .parsed f h) e;
+    walked = r .walked;
+    signs = r .signs;
+    stops = stops-more s k ts b e (r .stops);
+  }
 
   -- an operand, the sign, and all that follows
   pub right-two : {g : Guard} {u : List Flag} {m : ℕ} {ts : Tokens} {h : Guard} {v : List Flag} {m′ : ℕ} {us : Tokens} →
       Reads (plain next) d k u₀ m₀ ts₀ g u m ts → signNext s ts ≡ true → m < connectiveCeiling →
       Reads (toTheRight s next) d (k + 1) u (m + 1) (past ts) h v m′ us → Reads (toTheRight s next) d (k + 1) u₀ m₀ ts₀ (joined s g h) v m′ us
   right-two {g} {u} {m} {ts} {h} {v} {m′} {us} r e l q = record {
-      parsed = λ f i.
-          let less : f ≡ suc (f - 1) = omega (arith, r .signs) in
-          ap (λ (x : ℕ). toTheRight s next x u₀ ts₀) less
-          ∙ right-more s next (f - 1) u₀ ts₀ g u ts h v us (r .parsed f i) e (q .parsed (f - 1) (omega (arith, r .signs)));
-      walked = r .walked ∙ past-sign s d u m ts e l ∙ q .walked;
-      signs = omega (arith, r .signs, q .signs, connectives-joined s g h);
-      stops = q .stops }
+    parsed = λ f i.
+        let less : f ≡ suc (f - 1) = omega (arith, r .signs) in
+        ap (λ (x : ℕ). toTheRight s next x u₀ ts₀) less
+        ∙ right-more s next (f - 1) u₀ ts₀ g u ts h v us (r .parsed f i) e (q .parsed (f - 1) (omega (arith, r .signs)));
+    walked = r .walked ∙ past-sign s d u m ts e l ∙ q .walked;
+    signs = omega (arith, r .signs, q .signs, connectives-joined s g h);
+    stops = q .stops;
+  }

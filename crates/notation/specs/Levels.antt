@@ -17,6 +17,8 @@ use Rattle.notation.specs.declared.refusal.Refusal.{Refusal}
 use Rattle.notation.specs.declared.tokens.Kind.{Kind}
 use Rattle.notation.specs.declared.tokens.Kind.the-variants as kind
 use Rattle.notation.specs.declared.tokens.Token.{Token}
+use Rattle.notation.specs.declared.tokens.Cut.{Cut}
+use Rattle.notation.specs.declared.tokens.Cut.the-variants as cut
 use Rattle.notation.specs.declared.levels.At.{At}
 use Rattle.notation.specs.declared.levels.Part.{Part}
 use Rattle.notation.specs.declared.levels.Operand.{Operand}
@@ -78,6 +80,11 @@ pub record Standing (text codes out : List ℕ) (at : At) : Type 0 where
   pub flags : at .flags ≤ flagCeiling
   pub signs : at .signs ≤ connectiveCeiling
   pub count : at .count ≤ at .signs
+
+-- the refusal of a token, passed on
+abbrev pub passedOn : Cut → Operand
+passedOn (cut.Refused f) = answer.Refused f
+passedOn (cut.Token t) = answer.Refused (record { number = 5; place = t .start })
 
 -- one token further, and nothing else changed
 pub record Advanced (text : List ℕ) (at to : At) : Type 0 where
