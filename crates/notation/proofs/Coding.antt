@@ -1,6 +1,6 @@
 -- Codes and the table of flags: when two codes are the same, and the number that a table gives a code.
 use Prim.Native.Nat.{ℕ, zero, suc, _+_, _-_, _*_, _≤_, _<_}
-use native.Mathlib.Nat.{not-suc-le-zero, sub-zero, add-zero, sub-eq-zero-of-le}
+use native.Mathlib.Nat.{not-suc-le-zero, eq-or-lt-of-le, sub-zero, add-zero, sub-eq-zero-of-le}
 use native.Mathlib.Numerals.{add-one}
 use native.Mathlib.Omega.{arith}
 use mathlib.Core.Path.{_≡_, refl, sym, ap, _∙_}
@@ -150,3 +150,47 @@ fewer t h = record {
   starts = λ j g. t .starts j (omega arith);
   ends = λ j g. t .ends j (omega arith);
 }
+
+-- tables that agree on their first k codes have the same first k flags
+flags-same : (text codes codes′ : List ℕ) (k : ℕ) → ((i : ℕ) → i < 2 * k → getD codes′ i 0 ≡ getD codes i 0) → flagsIn text codes′ k ≡ flagsIn text codes k
+unfolding flagsIn
+flags-same text codes codes′ zero h = refl
+flags-same text codes codes′ (suc k) h =
+    rw (h (2 * k) (omega arith), h (2 * k + 1) (omega arith), flags-same text codes codes′ k (λ i l. h i (omega arith)))
+
+module _ (text codes : List ℕ) (k s e : ℕ) (room : 2 * k + 2 ≤ length codes) where
+  -- what a code entered at place k leaves as it was
+  entered-below : (i : ℕ) → i < 2 * k → getD (entered codes k s e) i 0 ≡ getD codes i 0
+  entered-below i h =
+      getD-set-other (set codes (2 * k) s) (2 * k + 1) i e 0 (λ (q : i ≡ 2 * k + 1). omega arith)
+      ∙ getD-set-other codes (2 * k) i s 0 (λ (q : i ≡ 2 * k). omega arith)
+
+  entered-start : startOf (entered codes k s e) k ≡ s
+  entered-start =
+      getD-set-other (set codes (2 * k) s) (2 * k + 1) (2 * k) e 0 (λ (q : 2 * k ≡ 2 * k + 1). omega arith)
+      ∙ getD-set-same codes (2 * k) s 0 (omega arith)
+
+  entered-end : endOf (entered codes k s e) k ≡ e
+  entered-end = getD-set-same (set codes (2 * k) s) (2 * k + 1) e 0 (rw length-set (omega arith))
+
+  -- a code entered at place k is the flag after the first k
+  pub flags-entered : flagsIn text (entered codes k s e) (k + 1) ≡ flagsIn text codes k ++ (flagAt text s e ∷ [])
+  unfolding flagsIn
+  flags-entered = rw (add-one k, entered-start, entered-end, flags-same text codes (entered codes k s e) k entered-below)
+
+  -- and lies in the text
+  pub in-text-entered : InText text codes k → s ≤ e → e ≤ length text → InText text (entered codes k s e) (k + 1)
+  in-text-entered t a b = record {
+    room = simp length-set (omega arith);
+    starts = λ i h. ⊎-elim
+        (λ (q : i ≡ k). rw (q, entered-start, entered-end) a)
+        (λ (q : i < k). rw (entered-below (2 * i) (omega arith), entered-below (2 * i + 1) (omega arith)) (t .starts i q))
+        (eq-or-lt-of-le (le-of-lt-add-one h));
+    ends = λ i h. ⊎-elim
+        (λ (q : i ≡ k). rw (q, entered-end) b)
+        (λ (q : i < k). rw (entered-below (2 * i + 1) (omega arith)) (t .ends i q))
+        (eq-or-lt-of-le (le-of-lt-add-one h));
+  }
+    where
+      le-of-lt-add-one : {i : ℕ} → i < k + 1 → i ≤ k
+      le-of-lt-add-one {i} h = omega arith

@@ -14,11 +14,7 @@ use Rattle.notation.specs.Tokens.{Tokens, Token, Sign, same, implies, or
 use Rattle.notation.specs.Walk.{Flag, Outcome, refused, walk, operand, after, within}
 use Rattle.notation.specs.Guard.{Guard, joined, negated, flag, truth, connectives}
 use Rattle.notation.specs.Grammar.{Level, Parsed, none, found, follow, sameSign, isSign, signNext, past, toTheLeft, toTheRight, leftLevel, rightLevel}
-use Rattle.notation.specs.Levels.{binding, Reads}
-
--- a level that takes no heed of the room for further operands
-abbrev pub plain : Level → ℕ → Level
-plain L f u ts = L u ts
+use Rattle.notation.specs.Levels.{binding, plain, Reads}
 
 connectives-joined : (s : Sign) (g h : Guard) → connectives (joined s g h) ≡ connectives g + connectives h + 1
 unfolding connectives

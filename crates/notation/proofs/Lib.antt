@@ -4,4 +4,6 @@ pub mod Coding
 pub mod Writing
 pub mod Leveling
 pub mod Stepping
+pub mod Operands
+pub mod Joining
 pub mod Examples

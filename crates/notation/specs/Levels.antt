@@ -9,7 +9,7 @@ use Rattle.notation.specs.Tokens as tokens
 use Rattle.notation.specs.Tokens.{Tokens, Sign}
 use Rattle.notation.specs.Walk.{Flag, Outcome, refused, walk, operand, after}
 use Rattle.notation.specs.Guard.{Guard, connectives}
-use Rattle.notation.specs.Grammar.{Level, found, signNext, past, sameSign, operandOf, inBrackets, andOf, orOf, toTheRight, sameOf}
+use Rattle.notation.specs.Grammar.{Level, found, signNext, past, sameSign, closed, operandOf, inBrackets, andOf, orOf, toTheRight, sameOf}
 use Rattle.notation.specs.Triplets.{Triplet, literal, triplets, numbers, tripletVariable, tripletOf, literalOf}
 use Rattle.notation.specs.Cut.{ahead, ends, signOf, FaultyHere}
 use Rattle.notation.specs.Codes.{flagsIn, InText}
@@ -66,17 +66,36 @@ joins (kind.Sign c) = true
 joins kind.Opening = false
 joins kind.Closing = false
 
+-- a kind is `!`
+abbrev pub bangs : Kind → Bool
+bangs kind.End = false
+bangs kind.Code = false
+bangs (kind.Truth b) = false
+bangs kind.Bang = true
+bangs (kind.Sign c) = false
+bangs kind.Opening = false
+bangs kind.Closing = false
+
+-- a kind is `)`
+abbrev pub closes : Kind → Bool
+closes kind.End = false
+closes kind.Code = false
+closes (kind.Truth b) = false
+closes kind.Bang = false
+closes (kind.Sign c) = false
+closes kind.Opening = false
+closes kind.Closing = true
+
 -- a token of the text
 pub record TokenFits (text : List ℕ) (t : Token) : Type 0 where
   pub moves : ends (t .kind) ≡ false → t .start < t .next
   pub inside : t .next ≤ length text
 
 -- where the reader stands is right: the token ahead, the table, and the numbers behind
-pub record Standing (text codes out : List ℕ) (at : At) : Type 0 where
+pub record Standing (text codes : List ℕ) (at : At) : Type 0 where
   pub token : TokenFits text (at .token)
   pub inText : InText text codes (at .flags)
   pub codesRoom : length codes ≡ 2 * flagCeiling
-  pub outRoom : length out ≡ 3 * connectiveCeiling
   pub flags : at .flags ≤ flagCeiling
   pub signs : at .signs ≤ connectiveCeiling
   pub count : at .count ≤ at .signs
@@ -126,14 +145,38 @@ pub record FoundPart (L : ℕ → Level) (d k : ℕ) (text : List ℕ) (at : At)
   pub reads : Reads L d k (flagsIn text codes (at .flags)) (at .signs) (ahead text (at .token))
       guard (flagsIn text codes′ (p .at .flags)) (p .at .signs) (ahead text (p .at .token))
   pub writes : Writes (at .count) (p .at .count) out out′ guard (p .literal)
-  pub standing : Standing text codes′ out′ (p .at)
+  pub standing : Standing text codes′ (p .at)
   pub later : at .token .start < p .at .token .start
+
+-- a level that takes no heed of the room for further operands
+abbrev pub plain : Level → ℕ → Level
+plain L f u ts = L u ts
 
 -- what a level answers
 abbrev pub LevelSays : (ℕ → Level) → ℕ → ℕ → List ℕ → At → List ℕ → List ℕ → Operand → List ℕ → List ℕ → Type 0
 LevelSays L d k text at codes out (answer.Found p) codes′ out′ = FoundPart L d k text at codes out p codes′ out′
 LevelSays L d k text at codes out (answer.Refused f) codes′ out′ =
     walk operand d (flagsIn text codes (at .flags)) (at .signs) (ahead text (at .token)) ≡ refused (f .number) (f .place)
+
+-- an operand that is no bracket, wherever it stands and whatever has been written
+abbrev pub AtomSays : List ℕ → At → List ℕ → Operand → List ℕ → Type 0
+AtomSays text at codes r codes′ = (inner : Level) (d : ℕ) (out : List ℕ) → LevelSays (plain (operandOf inner)) d 0 text at codes out r codes′ out
+
+-- past a closing bracket: the guard in brackets is an operand, or another token cannot stand there
+abbrev pub ClosedSays : List ℕ → Part → Operand → Type 0
+ClosedSays text inner (answer.Found p) =
+    Advanced text (inner .at) (p .at) × (p .at .signs ≡ inner .at .signs) × (p .literal ≡ inner .literal)
+    × ((d : ℕ) (u : List Flag) (m : ℕ) → walk after (suc d) u m (ahead text (inner .at .token)) ≡ walk after d u m (ahead text (p .at .token)))
+    × ((g : Guard) (u : List Flag) → closed g u (ahead text (inner .at .token)) ≡ found g u (ahead text (p .at .token)))
+ClosedSays text inner (answer.Refused f) =
+    (d : ℕ) (u : List Flag) (m : ℕ) → walk after (suc d) u m (ahead text (inner .at .token)) ≡ refused (f .number) (f .place)
+
+-- two operands joined: the reader has written one triplet more
+abbrev pub joinedPart : Sign → Part → Part
+joinedPart s right = record {
+  literal = literalOf s (tripletVariable (right .at .count + 1));
+  at = record { token = right .at .token; flags = right .at .flags; signs = right .at .signs; count = right .at .count + 1 };
+}
 
 -- the operands where d brackets are open, and the levels above them
 abbrev pub operandsAt : ℕ → Level

@@ -16,7 +16,9 @@ ghost use Prim.Native.Nat.{_+_, _*_, _≤_, _<_};
 ghost use lib.ListN.{length};
 ghost use Rattle.notation.specs.Grammar.{sameSign};
 ghost use Rattle.notation.specs.Cut.{ends, signOf};
-ghost use Rattle.notation.specs.Levels.{TokenFits, AdvancedSays, PastSignSays, passedOn, kindIs, joins, binding};
+ghost use Rattle.notation.specs.Ceilings.{connectiveCeiling, flagCeiling};
+ghost use Rattle.notation.specs.Triplets.{tripletOf};
+ghost use Rattle.notation.specs.Levels.{TokenFits, Standing, AdvancedSays, PastSignSays, AtomSays, ClosedSays, passedOn, kindIs, joins, bangs, closes, binding, literalCeiling, joinedPart, tripletAt};
 
 // Where the reader stands: the token ahead, and how many flags, signs and triplets lie behind.
 pub struct At {
@@ -124,5 +126,123 @@ fn is_sign(token: Token, sign: Connective) -> bool
         Kind::Bang => false,
         Kind::Opening => false,
         Kind::Closing => false,
+    }
+}
+
+fn is_bang(token: Token) -> bool
+    ensures { λ r. ⌜ r ≡ bangs (token .kind) ⌝ }
+{
+    let kind = token.kind;
+    match kind {
+        Kind::Bang => true,
+        Kind::End => false,
+        Kind::Code => false,
+        Kind::Truth(_) => false,
+        Kind::Sign(_) => false,
+        Kind::Opening => false,
+        Kind::Closing => false,
+    }
+}
+
+// Two operands joined by a sign: their triplet is written after those of both.
+fn joined(out: &mut [u16], sign: Connective, left: u16, right: Part) -> Part
+    requires { ⌜ length (now out) ≡ 3 * connectiveCeiling ⌝ }
+    requires { ⌜ right .at .count < connectiveCeiling ⌝ }
+    requires { ⌜ ((left ≤ literalCeiling) × (right .literal ≤ literalCeiling)) ⌝ }
+    ensures { λ r. ⌜ ((r ≡ joinedPart (signOf sign) right) × (now (out .exit) ≡ tripletAt (now (out .entry)) (right .at .count) (tripletOf (signOf sign) left (right .literal)))) ⌝ }
+{
+    let at = right.at;
+    let token = at.token;
+    let count = at.count;
+    triplets::write(out, count, sign, left, right.literal);
+    let literal = triplets::literal_of(sign, count);
+    let to = At {
+        token,
+        flags: at.flags,
+        signs: at.signs,
+        count: count + 1,
+    };
+    Part { literal, at: to }
+}
+
+// A code: a flag that is known, or a new one.
+fn code_operand(text: &[u8], at: At, codes: &mut [usize]) -> Operand
+    requires { ⌜ Standing (now text) (now codes) at ⌝ }
+    requires { ⌜ at .token .kind ≡ Kind.Code ⌝ }
+    ensures { λ r. ⌜ AtomSays (now (text .entry)) at (now (codes .entry)) r (now (codes .exit)) ⌝ }
+{
+    let token = at.token;
+    let start = token.start;
+    let next = token.next;
+    let flags = at.flags;
+    let place = codes::place_of(text, codes, flags, start, next);
+    if place < flags {
+        return advanced(text, flag_literal(place), at);
+    }
+    if FLAGS <= flags {
+        return Operand::Refused(Refusal {
+            number: 7,
+            place: start,
+        });
+    }
+    codes::enter(codes, flags, start, next);
+    let entered = At {
+        token,
+        flags: flags + 1,
+        signs: at.signs,
+        count: at.count,
+    };
+    advanced(text, flag_literal(place), entered)
+}
+
+// The literal of the flag at a place of the table, counted from 0.
+fn flag_literal(place: usize) -> u16
+    requires { ⌜ place < flagCeiling ⌝ }
+    ensures { λ r. ⌜ r ≡ 2 * (place + 1) ⌝ }
+{
+    (2 * (place + 1)) as u16
+}
+
+// `#0` or `#1`.
+fn truth_operand(text: &[u8], at: At, codes: &[usize], truth: bool) -> Operand
+    requires { ⌜ Standing (now text) (now codes) at ⌝ }
+    requires { ⌜ at .token .kind ≡ Kind.Truth truth ⌝ }
+    ensures { λ r. ⌜ AtomSays (now (text .entry)) at (now (codes .entry)) r (now (codes .entry)) ⌝ }
+{
+    if truth {
+        return advanced(text, 0, at);
+    }
+    advanced(text, 1, at)
+}
+
+// Past the bracket that closes a guard.
+fn closed(text: &[u8], inner: Part) -> Operand
+    requires { ⌜ TokenFits (now text) (inner .at .token) ⌝ }
+    requires { ⌜ joins (inner .at .token .kind) ≡ false ⌝ }
+    ensures { λ r. ⌜ ClosedSays (now (text .entry)) inner r ⌝ }
+{
+    let at = inner.at;
+    let token = at.token;
+    if is_closing(token) {
+        return advanced(text, inner.literal, at);
+    }
+    Operand::Refused(Refusal {
+        number: 5,
+        place: token.start,
+    })
+}
+
+fn is_closing(token: Token) -> bool
+    ensures { λ r. ⌜ r ≡ closes (token .kind) ⌝ }
+{
+    let kind = token.kind;
+    match kind {
+        Kind::Closing => true,
+        Kind::End => false,
+        Kind::Code => false,
+        Kind::Truth(_) => false,
+        Kind::Bang => false,
+        Kind::Sign(_) => false,
+        Kind::Opening => false,
     }
 }
