@@ -6,4 +6,5 @@ pub mod Leveling
 pub mod Stepping
 pub mod Operands
 pub mod Joining
+pub mod Nesting
 pub mod Examples

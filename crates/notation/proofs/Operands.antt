@@ -29,7 +29,7 @@ use Rattle.notation.proofs.Coding.{known-number, flags-length, flags-en
 use Rattle.notation.proofs.Stepping.{past-ahead}
 
 -- no sign binds tighter than `&`
-no-tighter : (s : Sign) → binding s ≤ 0 → ⊥
+pub no-tighter : (s : Sign) → binding s ≤ 0 → ⊥
 no-tighter same h = omega arith
 no-tighter implies h = omega arith
 no-tighter or h = omega arith
