@@ -17,6 +17,7 @@ use Rattle.notation.specs.Levels.{plain, binding, kindIs, tripletAt, joi
 use Rattle.notation.specs.declared.refusal.Refusal.{Refusal}
 use Rattle.notation.specs.declared.levels.At.{At}
 use Rattle.notation.specs.declared.levels.Part.{Part}
+use Rattle.notation.specs.declared.levels.Operand.{Operand}
 use Rattle.notation.specs.declared.levels.Operand.the-variants as answer
 use Rattle.notation.proofs.Writing.{writes-joined}
 use Rattle.notation.proofs.Stepping.{next-kind}
@@ -91,7 +92,7 @@ module _ (s : Sign) (next : Level) (d k : ℕ) (text : List ℕ) (at : At) (code
           (subst (λ (ts : Tokens). Reads L d j (flagsAt text codes (to .at)) (to .at .signs) ts (p .guard) (flagsAt text codes′ (right .at)) (right .at .signs) (ahead text (right .at .token))) (sym (past-it .0 .tokens)) (p .reads)))
 
       -- there is room for one triplet more
-      fewer : {L : ℕ → Level} {j : ℕ} {right : Part} {codes′ out′ : List ℕ} → FoundPart L d j text (to .at) codes out right codes′ out′ → right .at .count < connectiveCeiling
+      pub fewer : {L : ℕ → Level} {j : ℕ} {right : Part} {codes′ out′ : List ℕ} → FoundPart L d j text (to .at) codes out right codes′ out′ → right .at .count < connectiveCeiling
       fewer p = omega (arith, l .standing .count, past-it .0 .count, past-it .1, p .writes .count, p .reads .signs, p .standing .signs)
 
       -- the operand after the sign joins the chain
@@ -156,3 +157,20 @@ module _ (s : Sign) (next : Level) (d k : ℕ) (text : List ℕ) (at : At) (code
         };
         later = omega (arith, p .later, q .0 .later, r .later);
       }
+
+-- what a level says, once its answer is known
+module _ (L : ℕ → Level) (d k : ℕ) (text : List ℕ) (at : At) (codes out : List ℕ) (r : Operand) (codes′ out′ : List ℕ) (h : LevelSays L d k text at codes out r codes′ out′) where
+  pub found-of : (p : Part) → r ≡ answer.Found p → FoundPart L d k text at codes out p codes′ out′
+  found-of p e = subst (λ (x : Operand). LevelSays L d k text at codes out x codes′ out′) e h
+
+  pub refused-of : (f : Refusal) → r ≡ answer.Refused f → walk operand d (flagsAt text codes at) (at .signs) (ahead text (at .token)) ≡ refused (f .number) (f .place)
+  refused-of f e = subst (λ (x : Operand). LevelSays L d k text at codes out x codes′ out′) e h
+
+-- a refusal is the same at every level
+pub refused-as : (L : ℕ → Level) (d k : ℕ) (text : List ℕ) (at : At) (codes out : List ℕ) (r : Operand) (codes′ out′ : List ℕ) (f : Refusal) → r ≡ answer.Refused f →
+    walk operand d (flagsAt text codes at) (at .signs) (ahead text (at .token)) ≡ refused (f .number) (f .place) → LevelSays L d k text at codes out r codes′ out′
+refused-as L d k text at codes out r codes′ out′ f e h = subst (λ (x : Operand). LevelSays L d k text at codes out x codes′ out′) (sym e) h
+
+-- what lies past a sign, once it is known
+pub past-of : (text : List ℕ) (left : Part) (r x : Operand) → r ≡ x → PastSignSays text left r → PastSignSays text left x
+past-of text left r x e h = subst (λ (y : Operand). PastSignSays text left y) e h

@@ -30,15 +30,17 @@ pub right-is : (s : Sign) (next : Level) (d k : ℕ) (text : List ℕ) (at : At)
     FoundPart (toTheRight s next) d k text at codes out p codes′ out′ → FoundPart (plain (rightLevel s next)) d k text at codes out p codes′ out′
 unfolding rightLevel
 right-is s next d k text at codes out p codes′ out′ f = record {
-    guard = f .guard;
-    reads = record {
-        parsed = λ _ _. f .reads .parsed connectiveCeiling (omega arith);
-        walked = f .reads .walked;
-        signs = f .reads .signs;
-        stops = f .reads .stops };
-    writes = f .writes;
-    standing = f .standing;
-    later = f .later }
+  guard = f .guard;
+  reads = record {
+    parsed = λ _ _. f .reads .parsed connectiveCeiling (omega arith);
+    walked = f .reads .walked;
+    signs = f .reads .signs;
+    stops = f .reads .stops;
+  };
+  writes = f .writes;
+  standing = f .standing;
+  later = f .later;
+}
 
 -- an opening bracket
 ahead-opening : (k : Kind) (text : List ℕ) (p e : ℕ) → k ≡ kind.Opening → aheadAs k text p e ≡ token-at p opening (past (aheadAs k text p e))
@@ -84,12 +86,13 @@ module _ (text : List ℕ) (at : At) (k : at .token .kind ≡ kind.Opening) (d :
 
     pub inside-standing : Standing text codes at → Standing text codes (inside .at)
     inside-standing st = record {
-        token = a .0 .token;
-        inText = subst (λ (n : ℕ). InText text codes n) (sym (a .0 .flags)) (st .inText);
-        codesRoom = st .codesRoom;
-        flags = omega (arith, a .0 .flags, st .flags);
-        signs = omega (arith, a .1, st .signs);
-        count = omega (arith, a .0 .count, a .1, st .count) }
+      token = a .0 .token;
+      inText = subst (λ (n : ℕ). InText text codes n) (sym (a .0 .flags)) (st .inText);
+      codesRoom = st .codesRoom;
+      flags = omega (arith, a .0 .flags, st .flags);
+      signs = omega (arith, a .1, st .signs);
+      count = omega (arith, a .0 .count, a .1, st .count);
+    }
 
     module _ {part : Part} {codes′ out′ : List ℕ} (p : FoundPart (plain (sameOf (operandsAt (d + 1)))) (d + 1) 4 text (inside .at) codes out part codes′ out′) where
       -- no closing bracket follows
@@ -101,36 +104,45 @@ module _ (text : List ℕ) (at : At) (k : at .token .kind ≡ kind.Opening) (d :
       pub bracket-found : (q : Part) → ClosedSays text part (answer.Found q) → FoundPart (plain (operandsAt d)) d 0 text at codes out q codes′ out′
       unfolding follow
       bracket-found q c = record {
-          guard = p .guard;
-          reads = record {
-              parsed = λ f i.
-                  bracket-parsed (flagsIn text codes (at .flags)) h
-                  ∙ ap (λ (x : Parsed). follow x (λ g v us. closed g v us))
-                    (ap (λ (n : ℕ). sameOf (operandsAt (d + 1)) (flagsIn text codes n) (past (ahead text (at .token)))) (sym (a .0 .flags))
-                     ∙ ap (sameOf (operandsAt (d + 1)) (flagsIn text codes (inside .at .flags))) (a .0 .tokens) ∙ p .reads .parsed f (omega (arith, a .1)))
-                  ∙ c .4 (p .guard) (flagsIn text codes′ (part .at .flags))
-                  ∙ ap (λ (n : ℕ). found (p .guard) (flagsIn text codes′ n) (ahead text (q .at .token))) (sym (c .0 .flags));
-              walked =
-                  into ∙ p .reads .walked
-                  ∙ ap (λ (n : ℕ). walk after n (flagsIn text codes′ (part .at .flags)) (part .at .signs) (ahead text (part .at .token))) (add-one d)
-                  ∙ c .3 d (flagsIn text codes′ (part .at .flags)) (part .at .signs)
-                  ∙ ap (λ (n : ℕ). walk after d (flagsIn text codes′ n) (part .at .signs) (ahead text (q .at .token))) (sym (c .0 .flags))
-                  ∙ ap (λ (n : ℕ). walk after d (flagsIn text codes′ (q .at .flags)) n (ahead text (q .at .token))) (sym (c .1));
-              signs = omega (arith, c .1, p .reads .signs, a .1);
-              stops = λ s b. absurd (no-tighter s b) };
-          writes = record {
-              literal = c .2 ∙ p .writes .literal ∙ ap (λ (n : ℕ). literal n (p .guard)) (a .0 .count);
-              small = omega (arith, c .2, p .writes .small);
-              count = omega (arith, c .0 .count, p .writes .count, a .0 .count);
-              written = ap (λ (n : ℕ). take (3 * n) out′) (c .0 .count) ∙ p .writes .written ∙ ap (λ (n : ℕ). take (3 * n) out ++ numbers (triplets n (p .guard))) (a .0 .count) };
-          standing = record {
-              token = c .0 .token;
-              inText = subst (λ (n : ℕ). InText text codes′ n) (sym (c .0 .flags)) (p .standing .inText);
-              codesRoom = p .standing .codesRoom;
-              flags = omega (arith, c .0 .flags, p .standing .flags);
-              signs = omega (arith, c .1, p .standing .signs);
-              count = omega (arith, c .0 .count, c .1, p .standing .count) };
-          later = omega (arith, a .0 .later, p .later, c .0 .later) }
+        guard = p .guard;
+        reads = record {
+          parsed = λ f i.
+              bracket-parsed (flagsIn text codes (at .flags)) h
+              ∙ ap (λ (x : Parsed). follow x (λ g v us. closed g v us))
+              (ap (λ (n : ℕ). sameOf (operandsAt (d + 1)) (flagsIn text codes n) (past (ahead text (at .token)))) (sym (a .0 .flags))
+              ∙ ap (sameOf (operandsAt (d + 1)) (flagsIn text codes (inside .at .flags))) (a .0 .tokens) ∙ p .reads .parsed f (omega (arith, a .1)))
+              ∙ c .4 (p .guard) (flagsIn text codes′ (part .at .flags))
+              ∙ ap (λ (n : ℕ). found (p .guard) (flagsIn text codes′ n) (ahead text (q .at .token))) (sym (c .0 .flags));
+          walked =
+              into ∙ p .reads .walked
+              ∙ ap (λ (n : ℕ). walk after n (flagsIn text codes′ (part .at .flags)) (part .at .signs) (ahead text (part .at .token))) (add-one d)
+              ∙ c .3 d (flagsIn text codes′ (part .at .flags)) (part .at .signs)
+              ∙ ap (λ (n : ℕ). walk after d (flagsIn text codes′ n) (part .at .signs) (ahead text (q .at .token))) (sym (c .0 .flags))
+              ∙ ap (λ (n : ℕ). walk after d (flagsIn text codes′ (q .at .flags)) n (ahead text (q .at .token))) (sym (c .1));
+          signs = omega (arith, c .1, p .reads .signs, a .1);
+          stops = λ s b. absurd (no-tighter s b);
+        };
+        writes = record {
+          literal = c .2 ∙ p .writes .literal ∙ ap (λ (n : ℕ). literal n (p .guard)) (a .0 .count);
+          small = omega (arith, c .2, p .writes .small);
+          count = omega (arith, c .0 .count, p .writes .count, a .0 .count);
+          written = ap (λ (n : ℕ). take (3 * n) out′) (c .0 .count) ∙ p .writes .written ∙ ap (λ (n : ℕ). take (3 * n) out ++ numbers (triplets n (p .guard))) (a .0 .count);
+        };
+        standing = record {
+          token = c .0 .token;
+          inText = subst (λ (n : ℕ). InText text codes′ n) (sym (c .0 .flags)) (p .standing .inText);
+          codesRoom = p .standing .codesRoom;
+          flags = omega (arith, c .0 .flags, p .standing .flags);
+          signs = omega (arith, c .1, p .standing .signs);
+          count = omega (arith, c .0 .count, c .1, p .standing .count);
+        };
+        later = omega (arith, a .0 .later, p .later, c .0 .later);
+      }
+
+      -- whichever token follows
+      pub bracket-says : (r : Operand) → ClosedSays text part r → LevelSays (plain (operandsAt d)) d 0 text at codes out r codes′ out′
+      bracket-says (answer.Found q) c = bracket-found q c
+      bracket-says (answer.Refused f) c = never-closed f c
 
 -- a literal is turned not at all by 0
 pub turned-not : (l : ℕ) → turned 0 l ≡ l
@@ -191,14 +203,15 @@ pub record Bangs (text : List ℕ) (at here : At) (odd : ℕ) : Type 0 where
 -- none so far
 pub bangs-none : (text : List ℕ) (at : At) → TokenFits text (at .token) → Bangs text at at 0
 bangs-none text at t = record {
-    walked = λ d u m. refl;
-    parsed = λ inner u g v us e. (g, e, record { literally = λ c. sym (turned-not (literal c g)); nothing = λ c. refl; plainly = refl });
-    parity = omega arith;
-    flags = refl;
-    signs = refl;
-    count = refl;
-    token = t;
-    later = omega arith }
+  walked = λ d u m. refl;
+  parsed = λ inner u g v us e. (g, e, record { literally = λ c. sym (turned-not (literal c g)); nothing = λ c. refl; plainly = refl });
+  parity = omega arith;
+  flags = refl;
+  signs = refl;
+  count = refl;
+  token = t;
+  later = omega arith;
+}
 
 module _ (text : List ℕ) (at here : At) (odd : ℕ) (b : Bangs text at here odd) (k : bangs (here .token .kind) ≡ true) where
   bang-is : ahead text (here .token) ≡ token-at (here .token .start) bang (past (ahead text (here .token)))
@@ -222,19 +235,24 @@ module _ (text : List ℕ) (at here : At) (odd : ℕ) (b : Bangs text at here od
   pub bangs-more : (l : ℕ) (p : Part) → AdvancedSays text here l (answer.Found p) → Bangs text at (p .at) (1 - odd)
   unfolding literal triplets connectives
   bangs-more l p a = record {
-      walked = λ d u m. b .walked d u m ∙ bang-walked d u m ∙ ap (walk operand d u m) (a .0 .tokens);
-      parsed = λ inner u g v us e.
-          let r = b .parsed inner u (negated g) v us (bang-parsed inner u g v us (ap (operandOf inner u) (a .0 .tokens) ∙ e)) in
-          (r .0, r .1, record {
+    walked = λ d u m. b .walked d u m ∙ bang-walked d u m ∙ ap (walk operand d u m) (a .0 .tokens);
+    parsed = λ inner u g v us e.
+        let r = b .parsed inner u (negated g) v us (bang-parsed inner u g v us (ap (operandOf inner u) (a .0 .tokens) ∙ e)) in (
+          r .0,
+          r .1,
+          record {
             literally = λ c. r .2 .literally c ∙ turned-once-more odd (literal c g) (b .parity);
             nothing = λ c. r .2 .nothing c;
-            plainly = r .2 .plainly });
-      parity = omega arith;
-      flags = a .0 .flags ∙ b .flags;
-      signs = a .1 ∙ b .signs;
-      count = a .0 .count ∙ b .count;
-      token = a .0 .token;
-      later = omega (arith, b .later, a .0 .later) }
+            plainly = r .2 .plainly;
+          },
+        );
+    parity = omega arith;
+    flags = a .0 .flags ∙ b .flags;
+    signs = a .1 ∙ b .signs;
+    count = a .0 .count ∙ b .count;
+    token = a .0 .token;
+    later = omega (arith, b .later, a .0 .later);
+  }
 
 module _ (text : List ℕ) (at here : At) (odd : ℕ) (b : Bangs text at here odd) (codes : List ℕ) where
   here-walked : (d : ℕ) → walk operand d (flagsIn text codes (at .flags)) (at .signs) (ahead text (at .token)) ≡ walk operand d (flagsIn text codes (here .flags)) (here .signs) (ahead text (here .token))
@@ -245,12 +263,13 @@ module _ (text : List ℕ) (at here : At) (odd : ℕ) (b : Bangs text at here od
 
   pub here-standing : Standing text codes at → Standing text codes here
   here-standing st = record {
-      token = b .token;
-      inText = subst (λ (n : ℕ). InText text codes n) (sym (b .flags)) (st .inText);
-      codesRoom = st .codesRoom;
-      flags = omega (arith, b .flags, st .flags);
-      signs = omega (arith, b .signs, st .signs);
-      count = omega (arith, b .count, b .signs, st .count) }
+    token = b .token;
+    inText = subst (λ (n : ℕ). InText text codes n) (sym (b .flags)) (st .inText);
+    codesRoom = st .codesRoom;
+    flags = omega (arith, b .flags, st .flags);
+    signs = omega (arith, b .signs, st .signs);
+    count = omega (arith, b .count, b .signs, st .count);
+  }
 
   -- the operand behind them is refused
   pub behind-refused : (d : ℕ) (f : Refusal) → walk operand d (flagsIn text codes (here .flags)) (here .signs) (ahead text (here .token)) ≡ refused (f .number) (f .place) →
@@ -263,16 +282,19 @@ module _ (text : List ℕ) (at here : At) (odd : ℕ) (b : Bangs text at here od
   behind-found d out {p} {codes′} {out′} r =
       let t = b .parsed (inBrackets (bracketCeiling - d)) (flagsIn text codes (here .flags)) (r .guard) (flagsIn text codes′ (p .at .flags)) (ahead text (p .at .token)) (r .reads .parsed connectiveCeiling (omega arith)) in
       record {
-      guard = t .0;
-      reads = record {
+        guard = t .0;
+        reads = record {
           parsed = λ f i. ap (λ (n : ℕ). operandsAt d (flagsIn text codes n) (ahead text (at .token))) (sym (b .flags)) ∙ t .1;
           walked = here-walked d ∙ r .reads .walked;
           signs = omega (arith, r .reads .signs, b .signs, t .2 .plainly);
-          stops = r .reads .stops };
-      writes = record {
+          stops = r .reads .stops;
+        };
+        writes = record {
           literal = ap (turned odd) (r .writes .literal ∙ ap (λ (n : ℕ). literal n (r .guard)) (b .count)) ∙ sym (t .2 .literally (at .count));
           small = turned-small odd (p .literal) (b .parity) (r .writes .small);
           count = omega (arith, r .writes .count, b .count, t .2 .plainly);
-          written = r .writes .written ∙ ap (λ (n : ℕ). take (3 * n) out ++ numbers (triplets n (r .guard))) (b .count) ∙ ap (λ (x : List Triplet). take (3 * at .count) out ++ numbers x) (sym (t .2 .nothing (at .count))) };
-      standing = r .standing;
-      later = omega (arith, b .later, r .later) }
+          written = r .writes .written ∙ ap (λ (n : ℕ). take (3 * n) out ++ numbers (triplets n (r .guard))) (b .count) ∙ ap (λ (x : List Triplet). take (3 * at .count) out ++ numbers x) (sym (t .2 .nothing (at .count)));
+        };
+        standing = r .standing;
+        later = omega (arith, b .later, r .later);
+      }

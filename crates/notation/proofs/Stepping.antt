@@ -149,3 +149,27 @@ past-sign-says text left (answer.Found p) j l h = (
 )
 past-sign-says text left (answer.Refused f) j l h =
     λ d u. sign-passed (left .at .token .kind) text (left .at .token .start) (left .at .token .next) d u (left .at .signs) j l ∙ h operand d u (left .at .signs + 1)
+
+same-self : (s : Sign) → sameSign s s ≡ true
+unfolding sameSign
+same-self same = refl
+same-self implies = refl
+same-self or = refl
+same-self and = refl
+
+-- where no sign stands next, the token ahead is none
+pub stops-joins : (k : Kind) (text : List ℕ) (p e : ℕ) → ((s : Sign) → binding s ≤ 4 → signNext s (aheadAs k text p e) ≡ false) → joins k ≡ false
+unfolding aheadAs signNext isSign
+stops-joins kind.End text p e h = refl
+stops-joins kind.Code text p e h = refl
+stops-joins (kind.Truth b) text p e h = refl
+stops-joins kind.Bang text p e h = refl
+stops-joins (kind.Sign c) text p e h = absurd (true≢false (sym (same-self (signOf c)) ∙ h (signOf c) (loosest (signOf c))))
+  where
+    loosest : (s : Sign) → binding s ≤ 4
+    loosest same = omega arith
+    loosest implies = omega arith
+    loosest or = omega arith
+    loosest and = omega arith
+stops-joins kind.Opening text p e h = refl
+stops-joins kind.Closing text p e h = refl

@@ -152,6 +152,12 @@ pub record FoundPart (L : ℕ → Level) (d k : ℕ) (text : List ℕ) (at : At)
 abbrev pub plain : Level → ℕ → Level
 plain L f u ts = L u ts
 
+-- what a level asks, d brackets being open
+pub record LevelAsks (text : List ℕ) (at : At) (d : ℕ) (codes out : List ℕ) : Type 0 where
+  pub standing : Standing text codes at
+  pub room : length out ≡ 3 * connectiveCeiling
+  pub brackets : d ≤ bracketCeiling
+
 -- what a level answers
 abbrev pub LevelSays : (ℕ → Level) → ℕ → ℕ → List ℕ → At → List ℕ → List ℕ → Operand → List ℕ → List ℕ → Type 0
 LevelSays L d k text at codes out (answer.Found p) codes′ out′ = FoundPart L d k text at codes out p codes′ out′
