@@ -167,6 +167,13 @@ apart f c e =
     let same : lead f 0 ≡ lead f 1 = same-leads f c 0 1 e in
     omega (arith, same, lead-sign f 0, lead-sign f 1)
 
+-- a relation is contradictory where true is false in it
+pub contradictory-is : (f : ℕ → ℕ) → contradictory f ≡ relation f 0 1
+contradictory-is f =
+    bool-eq (contradictory f) (relation f 0 1) (λ c. relation-all f c 0 1)
+    (λ e.
+    ⊎-elim (λ (c : contradictory f ≡ true). c) (λ (c : contradictory f ≡ false). absurd (apart f c e)) (either (contradictory f)))
+
 -- two canonical arrays that keep the same relation, not a contradictory one, are the same
 pub canonical-unique : (n : ℕ) (f g : ℕ → ℕ) → Canonical n f → Canonical n g → contradictory f ≡ false → ((l m : ℕ) → relation f l m ≡ relation g l m) → (v : ℕ) → f v ≡ g v
 canonical-unique n f g k k′ c e v =

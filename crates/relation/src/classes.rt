@@ -49,6 +49,15 @@ pub fn lead(of: &[u16; VARIABLES], l: u16) -> u16
     turned(of[v], l)
 }
 
+// Whether all literals are equal.
+pub fn is_contradictory(of: &[u16; VARIABLES]) -> bool
+    requires { ⌜ Lower (now of) ⌝ }
+    ensures { λ r. ⌜ r ≡ kept (now (of .entry)) 0 1 ⌝ }
+{
+    let top = of[0];
+    top == 1
+}
+
 // Whether two literals are equal.
 pub fn equal(of: &[u16; VARIABLES], l: u16, m: u16) -> bool
     requires { ⌜ Lower (now of) ⌝ }
