@@ -22,12 +22,13 @@ module _ (D : ℕ → Type 0) (ts : List Triplet) where
   -- k + 1-stable is k-stable
   pub lower : (k : ℕ) (S : Rel) → Stable D ts (suc k) S → Stable D ts k S
   lower zero S h = h .0
-  lower (suc k) S h =
-      (h .0,
-      λ f l m d p q.
-      h .1 f l m d
-      (weaker-forces (Stable D ts k) (Stable D ts (suc k)) (taking S (2 * f)) l m (lower k) p)
-      (weaker-forces (Stable D ts k) (Stable D ts (suc k)) (taking S (2 * f + 1)) l m (lower k) q))
+  lower (suc k) S h = (
+    h .0,
+    λ f l m d p q.
+        h .1 f l m d
+        (weaker-forces (Stable D ts k) (Stable D ts (suc k)) (taking S (2 * f)) l m (lower k) p)
+        (weaker-forces (Stable D ts k) (Stable D ts (suc k)) (taking S (2 * f + 1)) l m (lower k) q),
+  )
 
   -- so what is saturated at a depth is saturated at the next
   pub deeper : (k : ℕ) (R : Rel) (l m : ℕ) → Saturated D ts k R l m → Saturated D ts (suc k) R l m

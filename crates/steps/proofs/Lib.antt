@@ -4,3 +4,4 @@ pub mod Sides
 pub mod Patterns
 pub mod Strongest
 pub mod StepLaws
+pub mod RestLaws
