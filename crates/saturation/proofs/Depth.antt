@@ -4,11 +4,13 @@ use mathlib.Core.Path.{_≡_, refl}
 use mathlib.Core.Bool.{true}
 use mathlib.Core.List.{List}
 use mathlib.Core.Logic.{_⊎_, inl, inr, ⊎-elim}
+use native.Mathlib.Omega.{arith}
 use Rattle.notation.specs.Triplets.{Triplet}
-use Rattle.relation.specs.Relation.{Rel, IsRelation, Within, Forced}
 use Rattle.steps.specs.Rest.{NoStepEnlarges}
 use Rattle.saturation.specs.Saturation.{taking, Stable, Saturated}
-use Rattle.saturation.proofs.Taking.{above-taking}
+use Rattle.relation.specs.Relation.{Rel, IsRelation, Within, Forced}
+use Rattle.saturation.proofs.Numbers.{split-eq}
+use Rattle.saturation.proofs.Taking.{above-taking, taking-above, taking-holds}
 
 module _ (D : ℕ → Type 0) (ts : List Triplet) where
   pub stable-rest : (k : ℕ) (S : Rel) → Stable D ts k S → NoStepEnlarges ts S
@@ -50,3 +52,44 @@ module _ (D : ℕ → Type 0) (ts : List Triplet) where
       (λ (e : S (2 * f) 0 ≡ true). p S r (above-taking S S (2 * f) (λ a b c. c) e) h)
       (λ (e : S (2 * f + 1) 0 ≡ true). q S r (above-taking S S (2 * f + 1) (λ a b c. c) e) h)
       t
+
+  lower-to : (j k : ℕ) (S : Rel) → j ≤ k → Stable D ts k S → Stable D ts j S
+  lower-to j zero S h s = let e : j ≡ 0 = omega arith in rw e s
+  lower-to j (suc k) S h s =
+      ⊎-elim
+      (λ (e : j ≡ suc k). rw e s)
+      (λ (n : j ≡ suc k → ⊥). lower-to j k S (omega arith) (lower k S s))
+      (split-eq j (suc k))
+
+  -- raising the depth keeps all that is saturated
+  pub raised : (j k : ℕ) (R : Rel) (l m : ℕ) → j ≤ k → Saturated D ts j R l m → Saturated D ts k R l m
+  raised j k R l m h = weaker-forces (Stable D ts j) (Stable D ts k) R l m (λ A s. lower-to j k A h s)
+
+  -- no step enlarges S, and it ties each variable or holds its split: then it is stable one deeper
+  pub stable-when : (k : ℕ) (S : Rel) → IsRelation S → NoStepEnlarges ts S
+      → ((f : ℕ) → D f → Ties S f ⊎ HoldsSplit k f S) → Stable D ts (suc k) S
+  stable-when k S r rest splits = up-to (suc k) (omega arith)
+    where
+      up-to : (j : ℕ) → j ≤ suc k → Stable D ts j S
+      up-to zero h = rest
+      up-to (suc j) h = (
+        rest,
+        λ f l m d p q.
+            ⊎-elim
+            (λ (t : Ties S f). tied-splits j f S r (up-to j (omega arith)) t l m p q)
+            (λ (s : HoldsSplit k f S).
+            s l m (raised j k (taking S (2 * f)) l m (omega arith) p) (raised j k (taking S (2 * f + 1)) l m (omega arith) q))
+            (splits f d),
+      )
+
+  -- where T is the saturation of R, adding l to T is adding it to R
+  pub in-turn : (k : ℕ) (R T : Rel) (l a b : ℕ) → ((c d : ℕ) → T c d ≡ true → Saturated D ts k R c d)
+      → Saturated D ts k (taking T l) a b → Saturated D ts k (taking R l) a b
+  in-turn k R T l a b forced s A r w h =
+      s A r
+      (above-taking T A l (λ c d e. forced c d e A r (taking-above R A l w) h) (taking-holds R A l w))
+      h
+
+  pub at-once : (k : ℕ) (R T : Rel) (l a b : ℕ) → Within R T → Saturated D ts k (taking R l) a b → Saturated D ts k (taking T l) a b
+  at-once k R T l a b above s A r w h =
+      s A r (above-taking R A l (λ c d e. taking-above T A l w c d (above c d e)) (taking-holds T A l w)) h
