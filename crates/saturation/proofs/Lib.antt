@@ -2,3 +2,5 @@ pub mod Numbers
 pub mod Taking
 pub mod Depth
 pub mod Truth
+pub mod Fixed
+pub mod States
