@@ -44,14 +44,14 @@ unfolding negation
 negation-even x = omega arith
 
 -- what a triplet makes of its operands is what its sign's truth table makes
-same-table : (a b : Bool) → connected 1 a b ≡ table same a b
+pub same-table : (a b : Bool) → connected 1 a b ≡ table same a b
 unfolding table
 same-table true true = refl
 same-table true false = refl
 same-table false true = refl
 same-table false false = refl
 
-implies-table : (a b : Bool) → connected 0 a b ≡ table implies a b
+pub implies-table : (a b : Bool) → connected 0 a b ≡ table implies a b
 unfolding table
 implies-table true b = refl
 implies-table false b = refl

@@ -4,3 +4,4 @@ pub mod Depth
 pub mod Truth
 pub mod Fixed
 pub mod States
+pub mod Valuations

@@ -53,3 +53,7 @@ each-at P c (t ∷ ts) e zero h = e .0
 each-at P c (t ∷ ts) e (suc j) h =
     let q : c + (suc j + 1) ≡ c + 1 + (j + 1) = omega arith in
     rw (at-next t ts j, q) (each-at P (c + 1) ts (e .1) j (omega arith))
+
+pub each-both : (P : Triplet → ℕ → Type 0) (c d : ℕ) (ts us : List Triplet) → d ≡ c + length ts → Each P c ts → Each P d us → Each P c (ts ++ us)
+each-both P c d [] us p e f = let q : d ≡ c = omega arith in rw q at f
+each-both P c d (t ∷ ts) us p e f = (e .0, each-both P (c + 1) d ts us (omega arith) (e .1) f)
