@@ -5,3 +5,4 @@ pub mod Truth
 pub mod Fixed
 pub mod States
 pub mod Valuations
+pub mod Verdicts
