@@ -80,3 +80,67 @@ module _ (D : ℕ → Type 0) (n : ℕ) (g : Guard) (proper : Proper n g) (k : �
   gap-false s a =
       ⊎-elim (λ (e : value n s g ≡ true). absurd (a .2 (fixed-refuted s e))) (λ (e : value n s g ≡ false). e)
       (either (value n s g))
+
+  -- the flag after the first i as 0, with those before it, where that is how t has them
+  next-as : (t i : ℕ) → suc i ≤ n → firstOf n t (suc i) % 2 ≡ 0 → AllTrue (valuation n g t) (flagAs (suc i) 0 ∷ flagsAs i (firstOf n t i))
+  unfolding flagsAs
+  next-as t i h e = rw (e, first-half n t i h) at (first-flags t (suc i) h)
+
+  -- the trial never passes over a state that makes the guard false
+  not-passed : (t : ℕ) → value n t g ≡ false → (i p : ℕ) → i ≤ n → Tries i p → p ≤ firstOf n t i
+  not-passed t e zero p h trial = omega arith
+  not-passed t e (suc i) p h trial =
+      let q : ℕ = firstOf n t (suc i) in
+      let before : p / 2 ≤ q / 2 = rw (first-half n t i h) (not-passed t e i (p / 2) (omega arith) (trial .0)) in
+      ⊎-elim
+      (λ (same : p / 2 ≡ q / 2).
+      ⊎-elim
+      (λ (zero : p % 2 ≡ 0). omega arith)
+      (λ (one : p % 2 ≡ 1).
+      ⊎-elim
+      (λ (none : q % 2 ≡ 0).
+      absurd
+      (not-refuted t (flagAs (suc i) 0 ∷ flagsAs i (firstOf n t i)) e (next-as t i h none)
+      (rw (same ∙ first-half n t i h) at (trial .1 .0 one))))
+      (λ (some : q % 2 ≡ 1). omega arith)
+      (parity q))
+      (parity p))
+      (λ (other : p / 2 ≡ q / 2 → ⊥). omega arith)
+      (split-eq (p / 2) (q / 2))
+
+  -- demand: a gap that is named is the first state that makes the guard false
+  pub gap-first : (s : ℕ) → Answer D (triplets 0 g) (literal 0 g) k n (gap s) → (t : ℕ) → value n t g ≡ false → s ≤ t
+  gap-first s a t e = rw (first-all n t) at (not-passed t e n s (omega arith) (a .1))
+
+-- no second answer holds
+module _ (D : ℕ → Type 0) (ts : List Triplet) (root k : ℕ) where
+  pub trial-unique : (i p q : ℕ) → Trial D ts root k i p → Trial D ts root k i q → p ≡ q
+  trial-unique zero p q a b = a ∙ sym b
+  trial-unique (suc i) p q a b =
+      let half : p / 2 ≡ q / 2 = trial-unique i (p / 2) (q / 2) (a .0) (b .0) in
+      ⊎-elim
+      (λ (zero : p % 2 ≡ 0).
+      ⊎-elim
+      (λ (none : q % 2 ≡ 0). omega arith)
+      (λ (some : q % 2 ≡ 1). absurd (clash (a .1 .1 (rw half (b .1 .0 some))) zero))
+      (parity q))
+      (λ (one : p % 2 ≡ 1).
+      ⊎-elim
+      (λ (none : q % 2 ≡ 0). absurd (clash (b .1 .1 (rw half at (a .1 .0 one))) none))
+      (λ (some : q % 2 ≡ 1). omega arith)
+      (parity q))
+      (parity p)
+    where
+      clash : {r : ℕ} → r ≡ 1 → r ≡ 0 → ⊥
+      clash {r} a b = omega arith
+
+  pub answer-unique : (n : ℕ) (v w : Verdict) → Answer D ts root k n v → Answer D ts root k n w → v ≡ w
+  answer-unique n covered covered a b = refl
+  answer-unique n covered (gap t) a b = absurd (b .0 a)
+  answer-unique n covered undecided a b = absurd (b .0 a)
+  answer-unique n (gap s) covered a b = absurd (a .0 b)
+  answer-unique n (gap s) (gap t) a b = ap gap (trial-unique n s t (a .1) (b .1))
+  answer-unique n (gap s) undecided a b = absurd (a .2 (rw (trial-unique n s (b .1 .0) (a .1) (b .1 .1)) (b .1 .2)))
+  answer-unique n undecided covered a b = absurd (a .0 b)
+  answer-unique n undecided (gap t) a b = absurd (b .2 (rw (trial-unique n t (a .1 .0) (b .1) (a .1 .1)) (a .1 .2)))
+  answer-unique n undecided undecided a b = refl
