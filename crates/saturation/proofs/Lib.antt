@@ -6,3 +6,4 @@ pub mod Fixed
 pub mod States
 pub mod Valuations
 pub mod Verdicts
+pub mod Enough

@@ -28,19 +28,19 @@ use Rattle.saturation.proofs.Valuations.{Proper, valuation, valuation-s
 
 module _ (D : ℕ → Type 0) (n : ℕ) (g : Guard) (proper : Proper n g) (k : ℕ) where
   -- the literals taken as true, with "root = false"
-  abbrev Refutes : List ℕ → Type 0
+  abbrev pub Refutes : List ℕ → Type 0
   Refutes ls = Refuted D (triplets 0 g) (literal 0 g) k ls
 
-  abbrev Tries : ℕ → ℕ → Type 0
+  abbrev pub Tries : ℕ → ℕ → Type 0
   Tries i s = Trial D (triplets 0 g) (literal 0 g) k i s
 
   -- a state that makes the guard false and the literals of a list true is never refuted
-  not-refuted : (s : ℕ) (ls : List ℕ) → value n s g ≡ false → AllTrue (valuation n g s) ls → Refutes ls → ⊥
+  pub not-refuted : (s : ℕ) (ls : List ℕ) → value n s g ≡ false → AllTrue (valuation n g s) ls → Refutes ls → ⊥
   not-refuted s ls e h =
       never-refuted D (triplets 0 g) (valuation n g s) (valuation-satisfies n g proper s) k (negation (literal 0 g) ∷ ls)
       (literal-negation (valuation n g s) (literal 0 g) ∙ ap not (valuation-root n g proper s ∙ e), h)
 
-  first-flags : (s i : ℕ) → i ≤ n → AllTrue (valuation n g s) (flagsAs i (firstOf n s i))
+  pub first-flags : (s i : ℕ) → i ≤ n → AllTrue (valuation n g s) (flagsAs i (firstOf n s i))
   first-flags s = first-true n s (valuation n g s) (valuation-flags n g proper s)
 
   -- flags that are refuted leave no state that makes the guard false
@@ -63,7 +63,7 @@ module _ (D : ℕ → Type 0) (n : ℕ) (g : Guard) (proper : Proper n g) (k : �
       r .transitive 0 (literal 0 g) 1 (r .symmetric (literal 0 g) 0 p)
       (rw (negation-twice (literal 0 g)) at (r .negating (negation (literal 0 g)) 0 q))
 
-  all-fixed : (s : ℕ) (A : Rel) → value n s g ≡ true → IsRelation A → NoStepEnlarges (triplets 0 g) A
+  pub all-fixed : (s : ℕ) (A : Rel) → value n s g ≡ true → IsRelation A → NoStepEnlarges (triplets 0 g) A
       → A (negation (literal 0 g)) 0 ≡ true → HoldsAll A (flagsAs n s) → A 0 1 ≡ true
   all-fixed s A e r rests root flags =
       let here : HoldsAll A (flagsAs n (firstOf n s n)) = rw (first-all n s) flags in
@@ -82,7 +82,7 @@ module _ (D : ℕ → Type 0) (n : ℕ) (g : Guard) (proper : Proper n g) (k : �
       (either (value n s g))
 
   -- the flag after the first i as 0, with those before it, where that is how t has them
-  next-as : (t i : ℕ) → suc i ≤ n → firstOf n t (suc i) % 2 ≡ 0 → AllTrue (valuation n g t) (flagAs (suc i) 0 ∷ flagsAs i (firstOf n t i))
+  pub next-as : (t i : ℕ) → suc i ≤ n → firstOf n t (suc i) % 2 ≡ 0 → AllTrue (valuation n g t) (flagAs (suc i) 0 ∷ flagsAs i (firstOf n t i))
   unfolding flagsAs
   next-as t i h e = rw (e, first-half n t i h) at (first-flags t (suc i) h)
 
