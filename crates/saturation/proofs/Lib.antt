@@ -7,3 +7,4 @@ pub mod States
 pub mod Valuations
 pub mod Verdicts
 pub mod Enough
+pub mod Confirmed
