@@ -81,7 +81,7 @@ module _ (A : Rel) (relation : IsRelation A) where
       (obeys own-z (side-for c) (rw (for-literal x (t .y) (t .z) c) q) ∙ for-truth v c)
       ∙ sym (for-truth v r)))
 
-  negation-ties : (l : ℕ) (b : Bool) → A l (literalFor b) ≡ true → A (negation l) (literalFor (not b)) ≡ true
+  pub negation-ties : (l : ℕ) (b : Bool) → A l (literalFor b) ≡ true → A (negation l) (literalFor (not b)) ≡ true
   negation-ties l b p = rw (for-negation b) at (relation .negating l (literalFor b) p)
 
   -- what a sign makes of two tied operands

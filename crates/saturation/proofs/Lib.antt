@@ -5,6 +5,7 @@ pub mod Truth
 pub mod Fixed
 pub mod States
 pub mod Valuations
+pub mod Decided
 pub mod Verdicts
 pub mod Enough
 pub mod Confirmed

@@ -102,7 +102,7 @@ module _ (n : ℕ) where
       placed : (j : ℕ) → j < connectives g → Placed n (tripletAt (numbers (triplets 0 g)) j) (2 * tripletVariable (0 + (j + 1)))
       placed j h = each-at (Placed n) 0 (triplets 0 g) (triplets-placed g 0 f) j (rw (count-triplets 0 g) h)
 
-gate-connected : (k : ℕ) (a b : Bool) → gate k a b ≡ connected k a b
+pub gate-connected : (k : ℕ) (a b : Bool) → gate k a b ≡ connected k a b
 unfolding gate
 gate-connected zero a b = sym (implies-table a b)
 gate-connected (suc k) a b = sym (same-table a b)
