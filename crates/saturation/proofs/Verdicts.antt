@@ -13,18 +13,22 @@ use Rattle.notation.specs.Triplets.{Triplet, negation, literal, triplets}
 use Rattle.relation.specs.Relation.{Rel, IsRelation, Within, Forced}
 use Rattle.truth.specs.Value.{bit, value}
 use Rattle.truth.specs.Computed.{literalValue}
-use Rattle.truth.proofs.Literals.{literal-negation, parity}
+use Rattle.truth.proofs.Literals.{literal-even, literal-negation, parity}
 use Rattle.steps.specs.Rest.{NoStepEnlarges}
 use Rattle.steps.proofs.Sides.{either, negation-twice}
 use Rattle.saturation.specs.Saturation.{taking, taken, Stable, Saturated, Flags}
 use Rattle.saturation.specs.Answer.{Verdict, covered, gap, undecided, flagAs, flagsAs, Refuted, Trial, Answer}
 use Rattle.saturation.proofs.Numbers.{split-eq}
-use Rattle.saturation.proofs.Taking.{HoldsAll, taken-above, taking-above, taking-holds}
+use Rattle.saturation.proofs.Taking.{HoldsAll, above-taken, taken-above, taking-above, taking-holds}
 use Rattle.saturation.proofs.Depth.{stable-rest, raised}
-use Rattle.saturation.proofs.Truth.{AllTrue, never-refuted}
+use Rattle.saturation.proofs.Truth.{AllTrue, Satisfying, agreeing, all-held, true-literal, false-literal, saturated-true, never-refuted}
 use Rattle.saturation.proofs.Fixed.{root-tied, literalFor}
 use Rattle.saturation.proofs.States.{firstOf, first-all, first-half, first-true, first-tied, holds-more}
 use Rattle.saturation.proofs.Valuations.{Proper, valuation, valuation-satisfies, valuation-flags, valuation-root}
+
+for-value : (v : ℕ → Bool) → v 0 ≡ true → (b : Bool) → literalValue v (literalFor b) ≡ b
+for-value v top true = true-literal v top
+for-value v top false = false-literal v top
 
 module _ (D : ℕ → Type 0) (n : ℕ) (g : Guard) (proper : Proper n g) (k : ℕ) where
   -- the literals taken as true, with "root = false"
@@ -55,6 +59,21 @@ module _ (D : ℕ → Type 0) (n : ℕ) (g : Guard) (proper : Proper n g) (k : �
   covered-true r s =
       ⊎-elim (λ (e : value n s g ≡ true). e) (λ (e : value n s g ≡ false). absurd (not-refuted s [] e tt r))
       (either (value n s g))
+
+  -- a flag that is tied where "root = false" is saturated is so in every state that makes the guard false
+  pub tied-in-gaps : (s i : ℕ) (b : Bool) → value n s g ≡ false → 0 < i → i ≤ n
+      → Saturated D (triplets 0 g) k (taken (negation (literal 0 g) ∷ [])) (2 * i) (literalFor b) → bit s (n - i) ≡ b
+  tied-in-gaps s i b e p q h =
+      let v : ℕ → Bool = valuation n g s in
+      let fits : Satisfying (triplets 0 g) v = valuation-satisfies n g proper s in
+      sym (valuation-flags n g proper s i p q)
+      ∙ sym (literal-even v (2 * i) i refl)
+      ∙ saturated-true D (triplets 0 g) v fits k (taken (negation (literal 0 g) ∷ [])) (2 * i) (literalFor b)
+      (above-taken (agreeing v) (negation (literal 0 g) ∷ [])
+      (all-held v (fits .top) (negation (literal 0 g) ∷ [])
+      (literal-negation v (literal 0 g) ∙ ap not (valuation-root n g proper s ∙ e), tt)))
+      h
+      ∙ for-value v (fits .top) b
 
   -- where true is the guard's value, holding its flags and "root = false" is contradictory
   both-roots : (A : Rel) → IsRelation A → A (literal 0 g) 0 ≡ true → A (negation (literal 0 g)) 0 ≡ true → A 0 1 ≡ true
