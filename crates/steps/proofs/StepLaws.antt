@@ -10,7 +10,7 @@ use Rattle.steps.specs.Step.{Side, never, always, own-x, own-y, own-z, V
 use Rattle.steps.specs.Table.{xNamed, yNamed, zNamed, pattern, patternOf, follows, contradictory, entry, NamesHold}
 use Rattle.steps.proofs.Sides.{either, Closed, held, held-closed}
 use Rattle.steps.proofs.Patterns.{pattern-below}
-use Rattle.steps.proofs.Strongest.{follows-gives, gives-follows, follows-closed, follows-consistent, x-holds, y-holds, z-holds, all-held, obeys-fits, fits-obeys, entry-contradicts, entry-names, entry-consistent}
+use Rattle.steps.proofs.Strongest.{follows-gives, gives-follows, follows-closed, follows-consistent, x-holds, y-holds, z-holds, all-held, named-fits, obeys-fits, fits-obeys, entry-contradicts, entry-names, entry-consistent}
 
 -- where true equals false, everything is held
 pub all-equal : (A : Rel) → IsRelation A → A 0 1 ≡ true → (l m : ℕ) → A l m ≡ true
@@ -79,3 +79,23 @@ module _ (kind x y z : ℕ) (S : Rel) (relation : IsRelation S) where
         of-y = y-holds (held S x y z) closed;
         of-z = z-holds (held S x y z) closed;
       }))
+
+-- at rest: where A holds what a pattern names, it holds what the entry there names, whatever else it holds
+module _ (kind x y z p : ℕ) (A : Rel) (relation : IsRelation A) (named : NamesHold p x y z A) (rests : HoldsStep kind x y z A A) where
+  pub follows-held : (s t : Side) → follows kind p s t ≡ true → A (literalAt x y z s) (literalAt x y z t) ≡ true
+  follows-held s t e =
+      rests s t
+      (λ v sat obeys. follows-gives kind p s t e v sat (named-fits p v (obeys own-x (xNamed p) (named .of-x)) (obeys own-y (yNamed p) (named .of-y)) (obeys own-z (zNamed p) (named .of-z))))
+
+  pub entry-contradicted : entry kind p ≡ contradictory → A 0 1 ≡ true
+  entry-contradicted e = relation .symmetric 1 0 (follows-held never always (entry-contradicts kind p e))
+
+  pub entry-held : (entry kind p ≡ contradictory → ⊥) → NamesHold (entry kind p) x y z A
+  entry-held n =
+      let E : Side → Side → Bool = follows kind p in
+      rw (entry-names kind p (entry-consistent kind p n))
+      (record {
+        of-x = follows-held own-x (xNamed (pattern E)) (x-holds E (follows-closed kind p));
+        of-y = follows-held own-y (yNamed (pattern E)) (y-holds E (follows-closed kind p));
+        of-z = follows-held own-z (zNamed (pattern E)) (z-holds E (follows-closed kind p));
+      })

@@ -110,20 +110,26 @@ pub all-held : (E A : Side → Side → Bool) → Closed E → Consistent E → 
 all-held E A e c a x y z =
     generated E e c A a (rw (x-named E e) at x) (rw (y-named E e) at y) (rw (z-named E e) at z)
 
+-- a truth value fits the pattern that names it so
+pub named-fits : (p : ℕ) (v : Values) → truthAt v own-x ≡ truthAt v (xNamed p) → truthAt v own-y ≡ truthAt v (yNamed p) → truthAt v own-z ≡ truthAt v (zNamed p)
+    → fits p v ≡ true
+named-fits p v a b c =
+    and-both (alike v own-x (xNamed p)) (alike v own-y (yNamed p) && alike v own-z (zNamed p))
+    (eq-beq (truthAt v own-x) (truthAt v (xNamed p)) a)
+    (and-both (alike v own-y (yNamed p)) (alike v own-z (zNamed p))
+    (eq-beq (truthAt v own-y) (truthAt v (yNamed p)) b)
+    (eq-beq (truthAt v own-z) (truthAt v (zNamed p)) c))
+
 module _ (S : Rel) (x y z : ℕ) (relation : IsRelation S) where
   -- a truth value that obeys the relation fits its pattern
   pub obeys-fits : (v : Values) → Obeys S x y z v → fits (patternOf S x y z) v ≡ true
   obeys-fits v o =
       let p : ℕ = patternOf S x y z in
       let closed : Closed (held S x y z) = held-closed S x y z relation in
-      and-both (alike v own-x (xNamed p)) (alike v own-y (yNamed p) && alike v own-z (zNamed p))
-      (same own-x (xNamed p) (x-holds (held S x y z) closed))
-      (and-both (alike v own-y (yNamed p)) (alike v own-z (zNamed p))
-      (same own-y (yNamed p) (y-holds (held S x y z) closed))
-      (same own-z (zNamed p) (z-holds (held S x y z) closed)))
-    where
-      same : (s t : Side) → held S x y z s t ≡ true → alike v s t ≡ true
-      same s t e = eq-beq (truthAt v s) (truthAt v t) (o s t e)
+      named-fits p v
+      (o own-x (xNamed p) (x-holds (held S x y z) closed))
+      (o own-y (yNamed p) (y-holds (held S x y z) closed))
+      (o own-z (zNamed p) (z-holds (held S x y z) closed))
 
   -- and the other way round
   pub fits-obeys : S 0 1 ≡ false → (v : Values) → fits (patternOf S x y z) v ≡ true → Obeys S x y z v
