@@ -1,0 +1,12 @@
+pub mod Numbers
+pub mod Taking
+pub mod Depth
+pub mod Truth
+pub mod Fixed
+pub mod States
+pub mod Valuations
+pub mod Decided
+pub mod Verdicts
+pub mod Enough
+pub mod Confirmed
+pub mod Slips

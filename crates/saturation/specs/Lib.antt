@@ -1,0 +1,2 @@
+pub mod Saturation
+pub mod Answer

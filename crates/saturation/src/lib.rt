@@ -1,0 +1,2 @@
+// Saturation: for now its meaning and laws alone.
+pub fn nothing() {}

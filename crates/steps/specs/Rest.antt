@@ -1,0 +1,19 @@
+-- A relation that no step on one of the triplets enlarges.
+use Prim.Native.Nat.{ℕ, _+_, _*_}
+use mathlib.Core.List.{List, [], _∷_}
+use Rattle.notation.specs.Triplets.{Triplet, tripletVariable}
+use Rattle.relation.specs.Relation.{Rel}
+use Rattle.steps.specs.Step.{HoldsStep}
+
+-- P holds of each triplet with its own literal, where c triplets stand before the list
+abbrev pub Each : (Triplet → ℕ → Type 0) → ℕ → List Triplet → Type 0
+Each P c [] = Unit {0}
+Each P c (t ∷ ts) = P t (2 * tripletVariable (c + 1)) × Each P (c + 1) ts
+
+-- A holds all that a step on a triplet with the literal x adds to S
+abbrev pub HoldsStepOn : Rel → Rel → Triplet → ℕ → Type 0
+HoldsStepOn S A t x = HoldsStep (t .kind) x (t .y) (t .z) S A
+
+-- no step on one of the triplets enlarges S
+abbrev pub NoStepEnlarges : List Triplet → Rel → Type 0
+NoStepEnlarges ts S = Each (HoldsStepOn S S) 0 ts
