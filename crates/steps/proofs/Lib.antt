@@ -5,3 +5,6 @@ pub mod Patterns
 pub mod Strongest
 pub mod StepLaws
 pub mod RestLaws
+pub mod Placing
+pub mod Stepping
+pub mod Resting
