@@ -10,3 +10,5 @@ pub mod Verdicts
 pub mod Enough
 pub mod Confirmed
 pub mod Slips
+pub mod Sketches
+pub mod Certificates
