@@ -12,3 +12,4 @@ pub mod Confirmed
 pub mod Slips
 pub mod Sketches
 pub mod Certificates
+pub mod Desk
