@@ -5,3 +5,4 @@ pub mod Patterns
 pub mod Strongest
 pub mod StepLaws
 pub mod RestLaws
+pub mod Stepping
