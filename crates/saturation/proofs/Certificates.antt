@@ -13,6 +13,7 @@ use borrow.Author.Tests.{eqb-true, eqb-false}
 use Rattle.notation.specs.Tokens.{choose}
 use Rattle.notation.specs.Triplets.{Triplet, tripletVariable, negation}
 use Rattle.relation.specs.Relation.{Rel, IsRelation, Within}
+use Rattle.relation.proofs.LiteralLaws.{same-variable}
 use Rattle.steps.specs.Step.{own-x, own-y, own-z, literalAt, HoldsStep}
 use Rattle.steps.specs.Table.{xNamed, yNamed, zNamed, patternOf, contradictory, entry, NamesHold}
 use Rattle.steps.specs.Rest.{Each, HoldsStepOn, NoStepEnlarges}
@@ -23,7 +24,7 @@ use Rattle.steps.proofs.StepLaws.{settled, entry-contradicted, entry-held}
 use Rattle.saturation.specs.Saturation.{taking, taken, Stable, Saturated}
 use Rattle.saturation.proofs.Taking.{HoldsAll, above-taken, taken-above, taking-above, taking-holds}
 use Rattle.saturation.proofs.Depth.{stable-rest}
-use Rattle.saturation.proofs.Sketches.{Binding, signed, lead, sketched, HoldsEach, same-variable, sign-back, lead-held, sketched-within, sketched-relation, sketched-consistent}
+use Rattle.saturation.proofs.Sketches.{Binding, signed, lead, sketched, HoldsEach, sign-back, lead-held, sketched-within, sketched-relation, sketched-consistent}
 
 -- a sketch, or none where it has become contradictory
 abbrev Sketch : Type 0

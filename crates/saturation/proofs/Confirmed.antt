@@ -8,13 +8,13 @@ use mathlib.Core.Logic.{_⊎_, inl, inr, ⊎-elim}
 use native.Mathlib.Omega.{arith}
 use native.Mathlib.Nat.{div-eq-of-lt, div-lt-iff-lt-mul}
 use lib.Pow.{pow-pos, shr-mono}
+use Rattle.relation.proofs.LiteralLaws.{lt-or-ge}
 use Rattle.notation.specs.Guard.{Guard}
 use Rattle.notation.specs.Triplets.{Triplet, negation, literal, triplets}
 use Rattle.truth.specs.Value.{value}
 use Rattle.truth.proofs.Literals.{parity}
 use Rattle.saturation.specs.Saturation.{taken, Flags}
 use Rattle.saturation.specs.Answer.{Verdict, covered, gap, undecided, flagAs, flagsAs, Refuted, Trial, Answer}
-use Rattle.saturation.proofs.Numbers.{lt-or-ge}
 use Rattle.saturation.proofs.Depth.{raised}
 use Rattle.saturation.proofs.States.{firstOf, first-all, first-half}
 use Rattle.saturation.proofs.Valuations.{Proper}

@@ -12,6 +12,7 @@ use Rattle.notation.specs.Ceilings.{flagCeiling}
 use Rattle.notation.specs.Triplets.{Triplet, tripletVariable, negation}
 use Rattle.notation.specs.Shape.{Names, Shape, kindAt, yAt, zAt}
 use Rattle.relation.specs.Relation.{Rel, IsRelation}
+use Rattle.relation.proofs.LiteralLaws.{split-eq}
 use Rattle.truth.specs.Value.{bit}
 use Rattle.truth.specs.Computed.{literalValue, computed, Valued}
 use Rattle.truth.proofs.Literals.{literal-even, literal-odd, parity}
@@ -19,7 +20,6 @@ use Rattle.truth.proofs.Computing.{valued}
 use Rattle.steps.specs.Step.{connected, HoldsStep}
 use Rattle.steps.specs.Rest.{HoldsStepOn}
 use Rattle.steps.proofs.RestLaws.{tripletAt}
-use Rattle.saturation.proofs.Numbers.{split-eq}
 use Rattle.saturation.proofs.Fixed.{literalFor, step-ties, negation-ties}
 use Rattle.saturation.proofs.Valuations.{gate-connected}
 

@@ -9,7 +9,7 @@ use Rattle.notation.specs.Triplets.{Triplet}
 use Rattle.steps.specs.Rest.{NoStepEnlarges}
 use Rattle.saturation.specs.Saturation.{taking, Stable, Saturated}
 use Rattle.relation.specs.Relation.{Rel, IsRelation, Within, Forced}
-use Rattle.saturation.proofs.Numbers.{split-eq}
+use Rattle.relation.proofs.LiteralLaws.{split-eq}
 use Rattle.saturation.proofs.Taking.{above-taking, taking-above, taking-holds}
 
 module _ (D : ℕ → Type 0) (ts : List Triplet) where

@@ -1,4 +1,3 @@
-pub mod Numbers
 pub mod Taking
 pub mod Depth
 pub mod Truth

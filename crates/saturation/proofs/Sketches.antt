@@ -12,9 +12,9 @@ use borrow.Author.Tests.{eqb-true, eqb-false, eq-eqb, ne-eqb}
 use Rattle.notation.specs.Tokens.{choose}
 use Rattle.notation.specs.Triplets.{negation}
 use Rattle.relation.specs.Relation.{Rel, IsRelation, Within}
+use Rattle.relation.proofs.LiteralLaws.{split-eq, either, negation-half, negation-differs, same-variable}
 use Rattle.truth.proofs.Literals.{parity}
-use Rattle.steps.proofs.Sides.{either, negation-twice}
-use Rattle.saturation.proofs.Numbers.{split-eq}
+use Rattle.steps.proofs.Sides.{negation-twice}
 
 -- a variable is replaced by a literal
 pub record Binding : Type 0 where
@@ -43,10 +43,6 @@ abbrev pub HoldsEach : Rel → List Binding → Type 0
 HoldsEach A [] = Unit {0}
 HoldsEach A (b ∷ bs) = (A (2 * b .variable) (b .literal) ≡ true) × HoldsEach A bs
 
-negation-half : (l : ℕ) → negation l / 2 ≡ l / 2
-unfolding negation
-negation-half l = omega arith
-
 negation-even : (l : ℕ) → l % 2 ≡ 0 → negation l % 2 ≡ 1
 unfolding negation
 negation-even l h = omega arith
@@ -57,14 +53,6 @@ negation-odd l h = omega arith
 
 odd-half : (l : ℕ) → l % 2 ≡ 1 → 2 * (l / 2) ≡ negation l
 odd-half l h = omega (arith, negation-half l, negation-odd l h)
-
-pub same-variable : (a b : ℕ) → a / 2 ≡ b / 2 → (a ≡ b → ⊥) → b ≡ negation a
-unfolding negation
-same-variable a b e d = omega arith
-
-negation-differs : (l : ℕ) → l ≡ negation l → ⊥
-unfolding negation
-negation-differs l e = omega arith
 
 signed-negation : (w l : ℕ) → signed w (negation l % 2) ≡ negation (signed w (l % 2))
 unfolding signed

@@ -10,11 +10,11 @@ use lib.Dec.{eqb}
 use lib.Pow.{shr-shr}
 use Rattle.notation.specs.Triplets.{negation}
 use Rattle.relation.specs.Relation.{Rel, IsRelation, Within}
+use Rattle.relation.proofs.LiteralLaws.{split-eq}
 use Rattle.truth.specs.Value.{bit}
 use Rattle.truth.specs.Computed.{literalValue}
 use Rattle.truth.proofs.Literals.{literal-even, literal-odd, parity}
 use Rattle.saturation.specs.Answer.{flagAs, flagsAs}
-use Rattle.saturation.proofs.Numbers.{split-eq}
 use Rattle.saturation.proofs.Taking.{HoldsAll}
 use Rattle.saturation.proofs.Truth.{AllTrue}
 use Rattle.saturation.proofs.Fixed.{literalFor}

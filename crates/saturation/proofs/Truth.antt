@@ -6,11 +6,12 @@ use mathlib.Core.List.{List, [], _∷_}
 use mathlib.Core.Logic.{_⊎_, inl, inr, ⊎-elim}
 use Rattle.notation.specs.Triplets.{Triplet, negation}
 use Rattle.relation.specs.Relation.{Rel, IsRelation, Within, Forced}
+use Rattle.relation.proofs.LiteralLaws.{either}
 use Rattle.truth.specs.Computed.{literalValue}
 use Rattle.truth.proofs.Literals.{literal-even, literal-odd, literal-negation}
 use Rattle.steps.specs.Step.{Side, never, always, own-x, not-x, own-y, not-y, own-z, not-z, Values, literalAt, truthAt, connected, Satisfies, Obeys, HoldsStep}
 use Rattle.steps.specs.Rest.{Each, HoldsStepOn, NoStepEnlarges}
-use Rattle.steps.proofs.Sides.{either, beq-eq, eq-beq, not-self}
+use Rattle.steps.proofs.Sides.{beq-eq, eq-beq, not-self}
 use Rattle.steps.proofs.RestLaws.{each-map}
 use Rattle.saturation.specs.Saturation.{taking, taken, Stable, Saturated}
 use Rattle.saturation.proofs.Taking.{above-taking, HoldsAll, above-taken}

@@ -11,14 +11,14 @@ use lib.Pow.{shr-shr}
 use Rattle.notation.specs.Guard.{Guard}
 use Rattle.notation.specs.Triplets.{Triplet, negation, literal, triplets}
 use Rattle.relation.specs.Relation.{Rel, IsRelation, Within, Forced}
+use Rattle.relation.proofs.LiteralLaws.{split-eq, either}
 use Rattle.truth.specs.Value.{bit, value}
 use Rattle.truth.specs.Computed.{literalValue}
 use Rattle.truth.proofs.Literals.{literal-even, literal-negation, parity}
 use Rattle.steps.specs.Rest.{NoStepEnlarges}
-use Rattle.steps.proofs.Sides.{either, negation-twice}
+use Rattle.steps.proofs.Sides.{negation-twice}
 use Rattle.saturation.specs.Saturation.{taking, taken, Stable, Saturated, Flags}
 use Rattle.saturation.specs.Answer.{Verdict, covered, gap, undecided, flagAs, flagsAs, Refuted, Trial, Answer}
-use Rattle.saturation.proofs.Numbers.{split-eq}
 use Rattle.saturation.proofs.Taking.{HoldsAll, above-taken, taken-above, taking-above, taking-holds}
 use Rattle.saturation.proofs.Depth.{stable-rest, raised}
 use Rattle.saturation.proofs.Truth.{AllTrue, Satisfying, agreeing, all-held, true-literal, false-literal, saturated-true, never-refuted}

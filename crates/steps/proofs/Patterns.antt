@@ -8,7 +8,8 @@ use lib.ListN.{getD}
 use Rattle.notation.specs.Tokens.{choose}
 use Rattle.steps.specs.Step.{Side, never, always, own-x, not-x, own-y, not-y, own-z, not-z}
 use Rattle.steps.specs.Table.{xNames, yNames, zNames, xNamed, yNamed, zNamed, earliest, pattern}
-use Rattle.steps.proofs.Sides.{bool-eq, other, other-twice, Closed, Consistent}
+use Rattle.relation.proofs.RelationLaws.{bool-eq}
+use Rattle.steps.proofs.Sides.{other, other-twice, Closed, Consistent}
 
 -- the first of a list that passes a test, or d
 abbrev pub first : (Side → Bool) → List Side → Side → Side

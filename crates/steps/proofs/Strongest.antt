@@ -10,7 +10,8 @@ use Rattle.relation.specs.Relation.{Rel, IsRelation, Within}
 use Rattle.steps.specs.Step.{Side, never, always, own-x, own-y, own-z, Values, literalAt, truthAt, connected, Satisfies, Obeys, Adds, HoldsStep}
 use Rattle.steps.specs.Table.{xNames, yNames, zNames, xNamed, yNamed, zNamed, pattern, patternOf, fits, both, each, follows, contradictory, entry, NamesHold}
 use Rattle.steps.proofs.Entries.{and-left, and-right}
-use Rattle.steps.proofs.Sides.{either, beq-eq, eq-beq, not-self, other, truth-other, Closed, Consistent, held, alike, held-closed, held-consistent, alike-closed}
+use Rattle.relation.proofs.LiteralLaws.{either}
+use Rattle.steps.proofs.Sides.{beq-eq, eq-beq, not-self, other, truth-other, Closed, Consistent, held, alike, held-closed, held-consistent, alike-closed}
 use Rattle.steps.proofs.Patterns.{first, pattern-below, x-named, y-named, z-named, generated}
 
 and-both : (a b : Bool) → a ≡ true → b ≡ true → a && b ≡ true
