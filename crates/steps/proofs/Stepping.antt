@@ -9,7 +9,7 @@ use Rattle.relation.specs.Least.{Least, Holds}
 use Rattle.relation.proofs.RelationLaws.{within-trans, least-below, least-unique, least-none}
 use Rattle.steps.specs.Step.{Side, Values, literalAt, Adds, HoldsStep}
 use Rattle.steps.specs.Table.{xNamed, yNamed, zNamed, patternOf, contradictory, entry, NamesHold}
-use Rattle.steps.specs.Rest.{HoldsStepOn, NoStepEnlarges, Stepped, Rested}
+use Rattle.steps.specs.Rest.{HoldsStepOn, NoStepEnlarges, StepOf, RestOf}
 use Rattle.steps.proofs.StepLaws.{step-contradicts, contradicts-step, step-names, names-step, settled}
 
 -- two properties that say the same of every relation above R have the same least relation
@@ -50,11 +50,11 @@ names-joined e x y z S T U W t u w =
 
 module _ (t : Triplet) (x : ℕ) (S : Rel) (relation : IsRelation S) where
   -- the step where its entry is the pattern itself
-  pub stepped-settled : entry (t .kind) (patternOf S x (t .y) (t .z)) ≡ patternOf S x (t .y) (t .z) → Stepped t x S S
+  pub stepped-settled : entry (t .kind) (patternOf S x (t .y) (t .z)) ≡ patternOf S x (t .y) (t .z) → StepOf t x S S
   stepped-settled e = least-none (λ A. HoldsStepOn S A t x) S relation (settled (t .kind) x (t .y) (t .z) S relation e)
 
   -- where its entry is the contradiction
-  pub stepped-contradictory : (T : Rel) → entry (t .kind) (patternOf S x (t .y) (t .z)) ≡ contradictory → Least (Holds 0 1) S T → Stepped t x S T
+  pub stepped-contradictory : (T : Rel) → entry (t .kind) (patternOf S x (t .y) (t .z)) ≡ contradictory → Least (Holds 0 1) S T → StepOf t x S T
   stepped-contradictory T e =
       least-same (Holds 0 1) (λ A. HoldsStepOn S A t x) S T
       (λ A a w h. contradicts-step (t .kind) x (t .y) (t .z) S relation A a h)
@@ -62,7 +62,7 @@ module _ (t : Triplet) (x : ℕ) (S : Rel) (relation : IsRelation S) where
 
   -- and elsewhere
   pub stepped-named : (T : Rel) → (entry (t .kind) (patternOf S x (t .y) (t .z)) ≡ contradictory → ⊥)
-      → Least (NamesHold (entry (t .kind) (patternOf S x (t .y) (t .z))) x (t .y) (t .z)) S T → Stepped t x S T
+      → Least (NamesHold (entry (t .kind) (patternOf S x (t .y) (t .z))) x (t .y) (t .z)) S T → StepOf t x S T
   stepped-named T n =
       least-same (NamesHold (entry (t .kind) (patternOf S x (t .y) (t .z))) x (t .y) (t .z)) (λ A. HoldsStepOn S A t x) S T
       (λ A a w h. names-step (t .kind) x (t .y) (t .z) S relation A a w n h)
@@ -74,17 +74,17 @@ step-below kind x y z S A B w h s t added =
     h s t (λ v sat obeys. added v sat (λ p q e. obeys p q (w (literalAt x y z p) (literalAt x y z q) e)))
 
 -- a step stays below every relation above S that it does not enlarge
-pub stepped-below : (t : Triplet) (x : ℕ) (S T A : Rel) → Stepped t x S T → IsRelation A → Within S A → HoldsStepOn A A t x → Within T A
+pub stepped-below : (t : Triplet) (x : ℕ) (S T A : Rel) → StepOf t x S T → IsRelation A → Within S A → HoldsStepOn A A t x → Within T A
 stepped-below t x S T A s a w h =
     least-below (λ B. HoldsStepOn S B t x) S T A s a w (step-below (t .kind) x (t .y) (t .z) S A A w h)
 
 -- a step that adds nothing does not enlarge S
-pub stepped-nothing : (t : Triplet) (x : ℕ) (S T : Rel) → Stepped t x S T → Within T S → HoldsStepOn S S t x
+pub stepped-nothing : (t : Triplet) (x : ℕ) (S T : Rel) → StepOf t x S T → Within T S → HoldsStepOn S S t x
 stepped-nothing t x S T s w p q added = w (literalAt x (t .y) (t .z) p) (literalAt x (t .y) (t .z) q) (s .has p q added)
 
 -- no second relation is what a step makes, or the 0-saturation
-pub step-unique : (t : Triplet) (x : ℕ) (S T U : Rel) → Stepped t x S T → Stepped t x S U → (l m : ℕ) → T l m ≡ U l m
+pub step-unique : (t : Triplet) (x : ℕ) (S T U : Rel) → StepOf t x S T → StepOf t x S U → (l m : ℕ) → T l m ≡ U l m
 step-unique t x S T U = least-unique (λ A. HoldsStepOn S A t x) S T U
 
-pub rest-unique : (ts : List Triplet) (S T U : Rel) → Rested ts S T → Rested ts S U → (l m : ℕ) → T l m ≡ U l m
+pub rest-unique : (ts : List Triplet) (S T U : Rel) → RestOf ts S T → RestOf ts S U → (l m : ℕ) → T l m ≡ U l m
 rest-unique ts S T U = least-unique (NoStepEnlarges ts) S T U

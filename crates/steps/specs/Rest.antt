@@ -20,9 +20,9 @@ abbrev pub NoStepEnlarges : List Triplet → Rel → Type 0
 NoStepEnlarges ts S = Each (HoldsStepOn S S) 0 ts
 
 -- T is what a step on a triplet with the literal x makes of S: the least relation above S that holds all that it adds
-abbrev pub Stepped : Triplet → ℕ → Rel → Rel → Type 0
-Stepped t x S T = Least (λ A. HoldsStepOn S A t x) S T
+abbrev pub StepOf : Triplet → ℕ → Rel → Rel → Type 0
+StepOf t x S T = Least (λ A. HoldsStepOn S A t x) S T
 
 -- T is the 0-saturation of S: the least relation above S that no step enlarges
-abbrev pub Rested : List Triplet → Rel → Rel → Type 0
-Rested ts S T = Least (NoStepEnlarges ts) S T
+abbrev pub RestOf : List Triplet → Rel → Rel → Type 0
+RestOf ts S T = Least (NoStepEnlarges ts) S T
