@@ -1,5 +1,6 @@
 pub mod Taking
 pub mod Depth
+pub mod Splits
 pub mod Truth
 pub mod Fixed
 pub mod States
