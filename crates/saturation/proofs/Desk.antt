@@ -11,16 +11,12 @@ use Rattle.notation.specs.Triplets.{tripletVariable, negation, tripletOf, liter
 use Rattle.truth.specs.Value.{bit, table, value}
 use Rattle.steps.specs.Table.{entry, follows, pattern}
 use Rattle.saturation.specs.Saturation.{Flags}
-use Rattle.saturation.specs.Answer.{Verdict, covered, gap, undecided, flagAs, flagsAs, Refuted, Trial, Answer}
+use Rattle.saturation.specs.Answer.{Verdict, covered, gap, undecided, flagAs, flagsAs, Refuted, Checked}
 use Rattle.saturation.proofs.Sketches.{Binding, signed, replaced, lead, sketched}
 use Rattle.saturation.proofs.Certificates.{joined as joins, named, stepped, passed, rested, begun, refutes, unmoved, holding, Among, run-refutes, sketch-stands}
 use Rattle.saturation.proofs.Valuations.{Proper}
 use Rattle.saturation.proofs.Verdicts.{not-refuted}
 use Rattle.saturation.proofs.Confirmed.{Confirms, confirmed}
-
--- check's answer for a guard of n flags
-abbrev pub Checked : ℕ → Guard → ℕ → Verdict → Type 0
-Checked n g k v = Answer (Flags n) (triplets 0 g) (literal 0 g) k n v
 
 refuted-by : (n : ℕ) (g : Guard) (passes : ℕ) (fs : List ℕ) (k : ℕ) (ls : List ℕ) → length fs ≤ k → Among (Flags n) fs
     → refutes passes fs (triplets 0 g) (begun (negation (literal 0 g) ∷ ls)) ≡ true → Refuted (Flags n) (triplets 0 g) (literal 0 g) k ls

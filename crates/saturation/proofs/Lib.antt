@@ -9,6 +9,7 @@ pub mod Decided
 pub mod Verdicts
 pub mod Enough
 pub mod Confirmed
+pub mod Demands
 pub mod Slips
 pub mod Sketches
 pub mod Certificates

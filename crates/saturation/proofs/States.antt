@@ -26,6 +26,10 @@ firstOf n s i = s / 2 ^ (n - i)
 pub first-all : (n s : ℕ) → firstOf n s n ≡ s
 first-all n s = let e : n - n ≡ 0 = omega arith in rw e (div-one s)
 
+-- no bit is both
+pub not-both : (b : ℕ) → b ≡ 1 → b ≡ 0 → ⊥
+not-both b p q = omega arith
+
 -- one flag less is half the state
 pub first-half : (n s i : ℕ) → suc i ≤ n → firstOf n s (suc i) / 2 ≡ firstOf n s i
 first-half n s i h =

@@ -23,7 +23,7 @@ use Rattle.saturation.proofs.Taking.{HoldsAll, above-taken, taken-above
 use Rattle.saturation.proofs.Depth.{stable-rest, raised}
 use Rattle.saturation.proofs.Truth.{AllTrue, Satisfying, agreeing, all-held, true-literal, false-literal, saturated-true, never-refuted}
 use Rattle.saturation.proofs.Fixed.{root-tied, literalFor}
-use Rattle.saturation.proofs.States.{firstOf, first-all, first-half, first-true, first-tied, holds-more}
+use Rattle.saturation.proofs.States.{not-both, firstOf, first-all, first-half, first-true, first-tied, holds-more}
 use Rattle.saturation.proofs.Valuations.{Proper, valuation, valuation-satisfies, valuation-flags, valuation-root}
 
 for-value : (v : ℕ → Bool) → v 0 ≡ true → (b : Bool) → literalValue v (literalFor b) ≡ b
@@ -141,17 +141,14 @@ module _ (D : ℕ → Type 0) (ts : List Triplet) (root k : ℕ) where
       (λ (zero : p % 2 ≡ 0).
       ⊎-elim
       (λ (none : q % 2 ≡ 0). omega arith)
-      (λ (some : q % 2 ≡ 1). absurd (clash (a .1 .1 (rw half (b .1 .0 some))) zero))
+      (λ (some : q % 2 ≡ 1). absurd (not-both (p % 2) (a .1 .1 (rw half (b .1 .0 some))) zero))
       (parity q))
       (λ (one : p % 2 ≡ 1).
       ⊎-elim
-      (λ (none : q % 2 ≡ 0). absurd (clash (b .1 .1 (rw half at (a .1 .0 one))) none))
+      (λ (none : q % 2 ≡ 0). absurd (not-both (q % 2) (b .1 .1 (rw half at (a .1 .0 one))) none))
       (λ (some : q % 2 ≡ 1). omega arith)
       (parity q))
       (parity p)
-    where
-      clash : {r : ℕ} → r ≡ 1 → r ≡ 0 → ⊥
-      clash {r} a b = omega arith
 
   pub answer-unique : (n : ℕ) (v w : Verdict) → Answer D ts root k n v → Answer D ts root k n w → v ≡ w
   answer-unique n covered covered a b = refl
