@@ -1,27 +1,26 @@
 -- Computed certificates: a run of steps and splits that ends contradictory shows that the saturation is, and a sketch
 -- that no step moves shows that it is not.
-use Prim.Native.Nat.{ℕ, zero, suc, _+_, _*_, _/_, _%_, _≤_, _<_}
-use mathlib.Core.Path.{_≡_, refl, sym, ap, _∙_, subst}
+use Prim.Native.Nat.{ℕ, zero, suc, _+_, _*_, _/_, _%_, _≤_}
+use mathlib.Core.Path.{_≡_, refl}
 use mathlib.Core.Bool.{Bool, true, false, _&&_, false≢true}
 use mathlib.Core.List.{List, [], _∷_, _++_}
-use mathlib.Core.Logic.{_⊎_, inl, inr, ⊎-elim}
 use mathlib.Core.Option.{Option, none, some}
 use native.Mathlib.Omega.{arith}
 use lib.Dec.{eqb}
 use lib.ListN.{length}
 use borrow.Author.Tests.{eqb-true, eqb-false}
 use Rattle.notation.specs.Tokens.{choose}
-use Rattle.notation.specs.Triplets.{Triplet, tripletVariable, negation}
+use Rattle.notation.specs.Triplets.{Triplet, tripletVariable}
 use Rattle.relation.specs.Relation.{Rel, IsRelation, Within}
 use Rattle.relation.proofs.LiteralLaws.{same-variable}
-use Rattle.steps.specs.Step.{own-x, own-y, own-z, literalAt, HoldsStep}
+use Rattle.steps.specs.Step.{literalAt}
 use Rattle.steps.specs.Table.{xNamed, yNamed, zNamed, patternOf, contradictory, entry, NamesHold}
 use Rattle.steps.specs.Rest.{Each, HoldsStepOn, NoStepEnlarges}
 use Rattle.steps.proofs.Entries.{and-left, and-right}
 use Rattle.steps.proofs.Sides.{Closed, held, held-closed}
 use Rattle.steps.proofs.Strongest.{x-holds, y-holds, z-holds}
 use Rattle.steps.proofs.StepLaws.{settled, entry-contradicted, entry-held}
-use Rattle.saturation.specs.Saturation.{taking, taken, Stable, Saturated}
+use Rattle.saturation.specs.Saturation.{taken, Stable, Saturated}
 use Rattle.saturation.proofs.Taking.{HoldsAll, above-taken, taken-above, taking-above, taking-holds}
 use Rattle.saturation.proofs.Depth.{stable-rest}
 use Rattle.saturation.proofs.Sketches.{Binding, signed, lead, sketched, HoldsEach, sign-back, lead-held, sketched-within, sketched-relation, sketched-consistent}

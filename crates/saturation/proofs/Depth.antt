@@ -1,15 +1,15 @@
 -- Depth only helps: what is stable at a depth is stable at every lower one.
 use Prim.Native.Nat.{ℕ, zero, suc, _+_, _*_, _≤_}
-use mathlib.Core.Path.{_≡_, refl}
+use mathlib.Core.Path.{_≡_}
 use mathlib.Core.Bool.{true}
 use mathlib.Core.List.{List}
-use mathlib.Core.Logic.{_⊎_, inl, inr, ⊎-elim, _↔_}
+use mathlib.Core.Logic.{_⊎_, ⊎-elim, _↔_}
 use native.Mathlib.Omega.{arith}
 use Rattle.notation.specs.Triplets.{Triplet}
 use Rattle.relation.proofs.RelationLaws.{least-unique}
 use Rattle.steps.specs.Rest.{NoStepEnlarges}
 use Rattle.saturation.specs.Saturation.{taking, Stable, Saturated, SaturationOf}
-use Rattle.relation.specs.Relation.{Rel, IsRelation, Within, Forced}
+use Rattle.relation.specs.Relation.{Rel, IsRelation, Forced}
 use Rattle.relation.proofs.LiteralLaws.{split-eq}
 use Rattle.saturation.proofs.Taking.{above-taking, taking-above, taking-holds}
 

@@ -1,7 +1,7 @@
 -- The outline's examples of check, by computation.
-use Prim.Native.Nat.{ℕ, zero, suc, _+_, _*_, _/_, _%_, _≤_, _<_}
-use mathlib.Core.Path.{_≡_, refl, sym}
-use mathlib.Core.Bool.{Bool, true, false}
+use Prim.Native.Nat.{ℕ, _+_, _*_, _≤_}
+use mathlib.Core.Path.{_≡_, refl}
+use mathlib.Core.Bool.{true, false}
 use mathlib.Core.List.{List, [], _∷_}
 use native.Mathlib.Omega.{arith}
 use lib.ListN.{length}
@@ -11,12 +11,12 @@ use Rattle.notation.specs.Triplets.{tripletVariable, negation, tripletOf, liter
 use Rattle.truth.specs.Value.{bit, table, value}
 use Rattle.steps.specs.Table.{entry, follows, pattern}
 use Rattle.saturation.specs.Saturation.{Flags}
-use Rattle.saturation.specs.Answer.{Verdict, covered, gap, undecided, flagAs, flagsAs, Refuted, Checked}
+use Rattle.saturation.specs.Answer.{covered, gap, undecided, flagAs, flagsAs, Refuted, Checked}
 use Rattle.saturation.proofs.Sketches.{Binding, signed, replaced, lead, sketched}
 use Rattle.saturation.proofs.Certificates.{joined as joins, named, stepped, passed, rested, begun, refutes, unmoved, holding, Among, run-refutes, sketch-stands}
 use Rattle.saturation.proofs.Valuations.{Proper}
 use Rattle.saturation.proofs.Verdicts.{not-refuted}
-use Rattle.saturation.proofs.Confirmed.{Confirms, confirmed}
+use Rattle.saturation.proofs.Confirmed.{confirmed}
 
 refuted-by : (n : ℕ) (g : Guard) (passes : ℕ) (fs : List ℕ) (k : ℕ) (ls : List ℕ) → length fs ≤ k → Among (Flags n) fs
     → refutes passes fs (triplets 0 g) (begun (negation (literal 0 g) ∷ ls)) ≡ true → Refuted (Flags n) (triplets 0 g) (literal 0 g) k ls

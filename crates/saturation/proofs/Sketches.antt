@@ -1,18 +1,17 @@
 -- A relation sketched as bindings of variables to literals, made one after the other: it is computed, and no more than
 -- what follows from what was bound.
-use Prim.Native.Nat.{ℕ, zero, suc, _+_, _*_, _/_, _%_, _<_}
-use mathlib.Core.Path.{_≡_, refl, sym, ap, ap₂, _∙_, subst}
+use Prim.Native.Nat.{ℕ, zero, suc, _*_, _/_, _%_}
+use mathlib.Core.Path.{_≡_, refl, sym, ap, _∙_}
 use mathlib.Core.Bool.{Bool, true, false}
-use mathlib.Core.List.{List, [], _∷_, _++_}
-use mathlib.Core.Logic.{_⊎_, inl, inr, ⊎-elim}
-use mathlib.Core.Option.{Option, none, some}
+use mathlib.Core.List.{List, [], _∷_}
+use mathlib.Core.Logic.{⊎-elim}
 use native.Mathlib.Omega.{arith}
 use lib.Dec.{eqb}
-use borrow.Author.Tests.{eqb-true, eqb-false, eq-eqb, ne-eqb}
+use borrow.Author.Tests.{eqb-true, eq-eqb, ne-eqb}
 use Rattle.notation.specs.Tokens.{choose}
 use Rattle.notation.specs.Triplets.{negation}
 use Rattle.relation.specs.Relation.{Rel, IsRelation, Within}
-use Rattle.relation.proofs.LiteralLaws.{split-eq, either, negation-half, negation-differs, same-variable}
+use Rattle.relation.proofs.LiteralLaws.{split-eq, negation-half, negation-differs}
 use Rattle.truth.proofs.Literals.{parity}
 use Rattle.steps.proofs.Sides.{negation-twice}
 

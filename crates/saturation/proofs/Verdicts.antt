@@ -1,29 +1,27 @@
 -- Check's answer: covered is said only of a guard that is true in every state, a gap is the first state that makes
 -- it false, no second answer holds, and from depth n up the answer is never undecided.
-use Prim.Native.Nat.{ℕ, zero, suc, _+_, _*_, _-_, _/_, _%_, _^_, _≤_, _<_}
-use mathlib.Core.Path.{_≡_, refl, sym, ap, _∙_, subst}
-use mathlib.Core.Bool.{Bool, true, false, not, false≢true}
+use Prim.Native.Nat.{ℕ, zero, suc, _*_, _-_, _/_, _%_, _≤_, _<_}
+use mathlib.Core.Path.{_≡_, refl, sym, ap, _∙_}
+use mathlib.Core.Bool.{Bool, true, false, not}
 use mathlib.Core.List.{List, [], _∷_}
-use mathlib.Core.Logic.{_⊎_, inl, inr, ⊎-elim, _↔_}
+use mathlib.Core.Logic.{⊎-elim}
 use native.Mathlib.Omega.{arith}
-use native.Mathlib.Nat.{div-one}
-use lib.Pow.{shr-shr}
 use Rattle.notation.specs.Guard.{Guard}
 use Rattle.notation.specs.Triplets.{Triplet, negation, literal, triplets}
-use Rattle.relation.specs.Relation.{Rel, IsRelation, Within, Forced}
+use Rattle.relation.specs.Relation.{Rel, IsRelation}
 use Rattle.relation.proofs.LiteralLaws.{split-eq, either}
 use Rattle.truth.specs.Value.{bit, value}
 use Rattle.truth.specs.Computed.{literalValue}
 use Rattle.truth.proofs.Literals.{literal-even, literal-negation, parity}
 use Rattle.steps.specs.Rest.{NoStepEnlarges}
 use Rattle.steps.proofs.Sides.{negation-twice}
-use Rattle.saturation.specs.Saturation.{taking, taken, Stable, Saturated, Flags}
+use Rattle.saturation.specs.Saturation.{taken, Saturated}
 use Rattle.saturation.specs.Answer.{Verdict, covered, gap, undecided, flagAs, flagsAs, Refuted, Trial, Answer}
-use Rattle.saturation.proofs.Taking.{HoldsAll, above-taken, taken-above, taking-above, taking-holds}
-use Rattle.saturation.proofs.Depth.{stable-rest, raised}
+use Rattle.saturation.proofs.Taking.{HoldsAll, above-taken, taken-above}
+use Rattle.saturation.proofs.Depth.{stable-rest}
 use Rattle.saturation.proofs.Truth.{AllTrue, Satisfying, agreeing, all-held, true-literal, false-literal, saturated-true, never-refuted}
 use Rattle.saturation.proofs.Fixed.{root-tied, literalFor}
-use Rattle.saturation.proofs.States.{not-both, firstOf, first-all, first-half, first-true, first-tied, holds-more}
+use Rattle.saturation.proofs.States.{not-both, firstOf, first-all, first-half, first-true, first-tied}
 use Rattle.saturation.proofs.Valuations.{Proper, valuation, valuation-satisfies, valuation-flags, valuation-root}
 
 for-value : (v : ℕ → Bool) → v 0 ≡ true → (b : Bool) → literalValue v (literalFor b) ≡ b

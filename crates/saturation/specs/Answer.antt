@@ -1,7 +1,6 @@
 -- What check answers at a depth, by saturation and the trial of flags.
 use Prim.Native.Nat.{ℕ, zero, suc, _+_, _*_, _/_, _%_}
 use mathlib.Core.Path.{_≡_}
-use mathlib.Core.Bool.{Bool, true, false}
 use mathlib.Core.List.{List, [], _∷_}
 use mathlib.Core.Logic.{_↔_}
 use Rattle.notation.specs.Guard.{Guard}

@@ -1,9 +1,9 @@
 -- What holds of each triplet of a list: by parts, and by the numbers that the list is written as.
 use Prim.Native.Nat.{ℕ, zero, suc, _+_, _*_, _<_}
-use mathlib.Core.Path.{_≡_, refl, sym, ap, subst, subst⁻¹}
+use mathlib.Core.Path.{_≡_}
 use mathlib.Core.List.{List, [], _∷_, _++_}
 use native.Mathlib.Omega.{arith}
-use lib.ListN.{length, getD}
+use lib.ListN.{length}
 use Rattle.notation.specs.Triplets.{Triplet, tripletVariable, numbers}
 use Rattle.notation.specs.Shape.{kindAt, yAt, zAt}
 use Rattle.steps.specs.Rest.{Each}

@@ -1,6 +1,6 @@
 -- The eight sides under negation, and what it is for equalities between them to be closed.
-use Prim.Native.Nat.{ℕ, _+_, _*_, _/_, _%_}
-use mathlib.Core.Path.{_≡_, refl, sym, ap, ap₂, _∙_}
+use Prim.Native.Nat.{ℕ}
+use mathlib.Core.Path.{_≡_, refl, sym, ap, _∙_}
 use mathlib.Core.Bool.{Bool, true, false, not, Bool·beq, Bool·not-not, false≢true}
 use native.Mathlib.Omega.{arith}
 use Rattle.notation.specs.Triplets.{negation}

@@ -1,13 +1,12 @@
 -- A step as joins of what its entry names, and steps on the way to rest.
-use Prim.Native.Nat.{ℕ, zero, suc}
-use mathlib.Core.Path.{_≡_, refl, sym}
-use mathlib.Core.Bool.{true}
+use Prim.Native.Nat.{ℕ}
+use mathlib.Core.Path.{_≡_}
 use mathlib.Core.List.{List}
 use Rattle.notation.specs.Triplets.{Triplet}
 use Rattle.relation.specs.Relation.{Rel, IsRelation, Within}
 use Rattle.relation.specs.Least.{Least, Holds}
 use Rattle.relation.proofs.RelationLaws.{within-trans, least-below, least-unique, least-none}
-use Rattle.steps.specs.Step.{Side, Values, literalAt, Adds, HoldsStep}
+use Rattle.steps.specs.Step.{literalAt, HoldsStep}
 use Rattle.steps.specs.Table.{xNamed, yNamed, zNamed, patternOf, contradictory, entry, NamesHold}
 use Rattle.steps.specs.Rest.{HoldsStepOn, NoStepEnlarges, StepOf, RestOf}
 use Rattle.steps.proofs.StepLaws.{step-contradicts, contradicts-step, step-names, names-step, settled}

@@ -1,14 +1,14 @@
 -- What an entry of the step table names is all that a step adds, and nothing else.
-use Prim.Native.Nat.{ℕ, zero, suc, _+_, _*_, _/_, _%_, _≤_, _<_}
-use mathlib.Core.Path.{_≡_, refl, sym, ap, _∙_, subst⁻¹, subst}
+use Prim.Native.Nat.{ℕ}
+use mathlib.Core.Path.{_≡_, refl, sym, ap, _∙_}
 use mathlib.Core.Bool.{Bool, true, false, not, Bool·beq, _&&_, _||_, false≢true}
 use mathlib.Core.List.{List, [], _∷_}
-use mathlib.Core.Logic.{_⊎_, inl, inr, ⊎-elim}
+use mathlib.Core.Logic.{⊎-elim}
 use native.Mathlib.Omega.{arith}
 use Rattle.notation.specs.Tokens.{choose}
-use Rattle.relation.specs.Relation.{Rel, IsRelation, Within}
-use Rattle.steps.specs.Step.{Side, never, always, own-x, own-y, own-z, Values, literalAt, truthAt, connected, Satisfies, Obeys, Adds, HoldsStep}
-use Rattle.steps.specs.Table.{xNames, yNames, zNames, xNamed, yNamed, zNamed, pattern, patternOf, fits, both, each, follows, contradictory, entry, NamesHold}
+use Rattle.relation.specs.Relation.{Rel, IsRelation}
+use Rattle.steps.specs.Step.{Side, never, always, own-x, own-y, own-z, Values, truthAt, connected, Satisfies, Obeys}
+use Rattle.steps.specs.Table.{xNames, yNames, zNames, xNamed, yNamed, zNamed, pattern, patternOf, fits, both, each, follows, contradictory, entry}
 use Rattle.steps.proofs.Entries.{and-left, and-right}
 use Rattle.relation.proofs.LiteralLaws.{either}
 use Rattle.steps.proofs.Sides.{beq-eq, eq-beq, not-self, other, truth-other, Closed, Consistent, held, alike, held-closed, held-consistent, alike-closed}
