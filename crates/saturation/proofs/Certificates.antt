@@ -22,7 +22,7 @@ use Rattle.steps.proofs.Strongest.{x-holds, y-holds, z-holds}
 use Rattle.steps.proofs.StepLaws.{settled, entry-contradicted, entry-held}
 use Rattle.saturation.specs.Saturation.{taken, Stable, Saturated}
 use Rattle.saturation.proofs.Taking.{HoldsAll, above-taken, taken-above, taking-above, taking-holds}
-use Rattle.saturation.proofs.Depth.{stable-rest}
+use Rattle.saturation.proofs.Depth.{Among, stable-rest}
 use Rattle.saturation.proofs.Sketches.{Binding, signed, lead, sketched, HoldsEach, sign-back, lead-held, sketched-within, sketched-relation, sketched-consistent}
 
 -- a sketch, or none where it has become contradictory
@@ -173,11 +173,6 @@ module _ (A : Rel) (relation : IsRelation A) where
 holds-more : (A B : Rel) (bs : List Binding) → Within A B → HoldsEach A bs → HoldsEach B bs
 holds-more A B [] w h = tt
 holds-more A B (b ∷ bs) w h = (w (2 * b .variable) (b .literal) (h .0), holds-more A B bs w (h .1))
-
--- each variable of a list is one that is split
-abbrev pub Among : (ℕ → Type 0) → List ℕ → Type 0
-Among D [] = Unit {0}
-Among D (f ∷ fs) = D f × Among D fs
 
 module _ (D : ℕ → Type 0) (ts : List Triplet) (n : ℕ) where
   refutes-sound : (fs : List ℕ) (k : ℕ) (A : Rel) (o : Sketch) → length fs ≤ k → Among D fs → IsRelation A → Stable D ts k A → Sound A o

@@ -2,7 +2,7 @@
 use Prim.Native.Nat.{ℕ, zero, suc, _+_, _*_, _≤_}
 use mathlib.Core.Path.{_≡_}
 use mathlib.Core.Bool.{true}
-use mathlib.Core.List.{List}
+use mathlib.Core.List.{List, [], _∷_}
 use mathlib.Core.Logic.{_⊎_, ⊎-elim, _↔_}
 use native.Mathlib.Omega.{arith}
 use Rattle.notation.specs.Triplets.{Triplet}
@@ -12,6 +12,11 @@ use Rattle.saturation.specs.Saturation.{taking, Stable, Saturated, Satur
 use Rattle.relation.specs.Relation.{Rel, IsRelation, Forced}
 use Rattle.relation.proofs.LiteralLaws.{split-eq}
 use Rattle.saturation.proofs.Taking.{above-taking, taking-above, taking-holds}
+
+-- each variable of a list is one that is split
+abbrev pub Among : (ℕ → Type 0) → List ℕ → Type 0
+Among D [] = Unit {0}
+Among D (f ∷ fs) = D f × Among D fs
 
 module _ (D : ℕ → Type 0) (ts : List Triplet) where
   pub stable-rest : (k : ℕ) (S : Rel) → Stable D ts k S → NoStepEnlarges ts S

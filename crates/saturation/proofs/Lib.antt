@@ -8,6 +8,7 @@ pub mod Valuations
 pub mod Decided
 pub mod Verdicts
 pub mod Enough
+pub mod Untied
 pub mod Confirmed
 pub mod Demands
 pub mod Slips

@@ -80,12 +80,14 @@ module _ (D : ℕ → Type 0) (n : ℕ) (g : Guard) (proper : Proper n g) (k : �
       r .transitive 0 (literal 0 g) 1 (r .symmetric (literal 0 g) 0 p)
       (rw (negation-twice (literal 0 g)) at (r .negating (negation (literal 0 g)) 0 q))
 
+  pub tied-contradicts : (s : ℕ) (A : Rel) → value n s g ≡ true → IsRelation A → NoStepEnlarges (triplets 0 g) A
+      → A (negation (literal 0 g)) 0 ≡ true → ((i : ℕ) → 0 < i → i ≤ n → A (2 * i) (literalFor (bit s (n - i))) ≡ true) → A 0 1 ≡ true
+  tied-contradicts s A e r rests root tied = both-roots A r (rw e at (root-tied A r n s tied g 0 (proper .within) rests)) root
+
   pub all-fixed : (s : ℕ) (A : Rel) → value n s g ≡ true → IsRelation A → NoStepEnlarges (triplets 0 g) A
       → A (negation (literal 0 g)) 0 ≡ true → HoldsAll A (flagsAs n s) → A 0 1 ≡ true
   all-fixed s A e r rests root flags =
-      let here : HoldsAll A (flagsAs n (firstOf n s n)) = rw (first-all n s) flags in
-      let tied : A (literal 0 g) (literalFor (value n s g)) ≡ true = root-tied A r n s (λ i p q. first-tied n s A r n (omega arith) here i p q) g 0 (proper .within) rests in
-      both-roots A r (rw e at tied) root
+      tied-contradicts s A e r rests root (λ i p q. first-tied n s A r n (omega arith) (rw (first-all n s) flags) i p q)
 
   pub fixed-refuted : (s : ℕ) → value n s g ≡ true → Refutes (flagsAs n s)
   fixed-refuted s e A r w stable =
