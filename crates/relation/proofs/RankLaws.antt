@@ -113,6 +113,14 @@ pub rank-consistent : (n : ℕ) (f : ℕ → ℕ) → contradictory f ≡ false 
 unfolding rank
 rank-consistent n f c = rw c
 
+-- the rank is bounded by the number of variables
+pub rank-most : (n : ℕ) (f : ℕ → ℕ) → rank n f ≤ 1 + n
+rank-most n f =
+    ⊎-elim
+    (λ (c : contradictory f ≡ true). omega (arith, rank-contradictory n f c))
+    (λ (c : contradictory f ≡ false). omega (arith, rank-consistent n f c, own-most n f))
+    (either (contradictory f))
+
 -- a variable that leads to none lower stands for itself
 stands-not-lower : (n : ℕ) (f : ℕ → ℕ) → Canonical n f → contradictory f ≡ false → (v : ℕ) → v ≤ f v / 2 → f v ≡ 2 * v
 stands-not-lower n f k c v h = subst (λ (u : ℕ). f u ≡ 2 * u) here (leader-stands n f k c v)

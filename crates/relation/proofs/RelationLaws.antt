@@ -70,3 +70,23 @@ least-turned R S l m s =
       has = s .relation .symmetric m l (s .has);
       forced = λ j k e A c w h. s .forced j k e A c w (c .symmetric l m h);
     }
+
+-- the least with P, and above that the least with Q, is the least with both, where no larger relation loses P
+pub least-then : (P Q : Rel → Type 0) (R S T : Rel) → ((A B : Rel) → Within A B → P A → P B) → Least P R S → Least Q S T → Least (λ (A : Rel). P A × Q A) R T
+least-then P Q R S T up s t =
+    record {
+      relation = t .relation;
+      above = within-trans R S T (s .above) (t .above);
+      has = (up S T (t .above) (s .has), t .has);
+      forced = λ l m e A a w h. t .forced l m e A a (least-below P R S A s a w (h .0)) (h .1);
+    }
+
+-- two properties that relations above R have together have the same least relation
+pub least-same : (P Q : Rel → Type 0) (R S : Rel) → ((A : Rel) → IsRelation A → Within R A → P A → Q A) → ((A : Rel) → IsRelation A → Within R A → Q A → P A) → Least P R S → Least Q R S
+least-same P Q R S to from s =
+    record {
+      relation = s .relation;
+      above = s .above;
+      has = to S (s .relation) (s .above) (s .has);
+      forced = λ l m e A a w h. s .forced l m e A a w (from A a w h);
+    }

@@ -24,7 +24,7 @@ each-right P c d (t ∷ ts) us p e = each-right P (c + 1) d ts us (omega arith) 
 abbrev pub tripletAt : List ℕ → ℕ → Triplet
 tripletAt xs j = record { kind = kindAt xs j; y = yAt xs j; z = zAt xs j }
 
-at-next : (t : Triplet) (ts : List Triplet) (j : ℕ) → tripletAt (numbers (t ∷ ts)) (suc j) ≡ tripletAt (numbers ts) j
+pub at-next : (t : Triplet) (ts : List Triplet) (j : ℕ) → tripletAt (numbers (t ∷ ts)) (suc j) ≡ tripletAt (numbers ts) j
 unfolding numbers
 at-next t ts j =
     let p : 3 * suc j ≡ suc (suc (suc (3 * j))) = omega arith in

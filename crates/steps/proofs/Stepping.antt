@@ -1,89 +1,126 @@
--- A step as joins of what its entry names, and steps on the way to rest.
-use Prim.Native.Nat.{ℕ}
-use mathlib.Core.Path.{_≡_}
+-- A step by its entry: nothing where the entry is the pattern itself, the contradiction, or the three equalities that it names.
+use Prim.Native.Nat.{ℕ, _+_, _*_, _/_, _%_, _≤_, _<_}
+use mathlib.Core.Path.{_≡_, refl, sym, _∙_, ap, subst, subst₃}
+use mathlib.Core.Bool.{Bool, true, false}
 use mathlib.Core.List.{List}
-use Rattle.notation.specs.Triplets.{Triplet}
+use mathlib.Core.Logic.{⊎-elim}
+use native.Mathlib.Omega.{arith}
 use Rattle.relation.specs.Relation.{Rel, IsRelation, Within}
 use Rattle.relation.specs.Least.{Least, Holds}
-use Rattle.relation.proofs.RelationLaws.{within-trans, least-below, least-unique, least-none}
-use Rattle.steps.specs.Step.{literalAt, HoldsStep}
-use Rattle.steps.specs.Table.{xNamed, yNamed, zNamed, patternOf, contradictory, entry, NamesHold}
-use Rattle.steps.specs.Rest.{HoldsStepOn, NoStepEnlarges, StepOf, RestOf}
+use Rattle.relation.specs.Classes.{lead, entry as at, contradictory as broken, kept, Classes}
+use Rattle.relation.specs.Contracts.{Joined}
+use Rattle.relation.proofs.LiteralLaws.{either, negation-half}
+use Rattle.relation.proofs.RelationLaws.{least-none, least-then, least-same}
+use Rattle.relation.proofs.ClassLaws.{relation-all, is-relation, true-leads}
+use Rattle.steps.specs.Step.{Side, never, always, own-x, not-x, own-y, not-y, own-z, not-z, literalAt, HoldsStep}
+use Rattle.steps.specs.Table.{xNamed, yNamed, zNamed, patternOf, follows, contradictory, entry, NamesHold}
+use Rattle.steps.specs.Leading.{Patterned}
+use Rattle.steps.specs.Contracts.{Named, Stepped}
+use Rattle.steps.proofs.Patterns.{pattern-below}
+use Rattle.steps.proofs.Strongest.{follows-closed, entry-names, entry-consistent}
 use Rattle.steps.proofs.StepLaws.{step-contradicts, contradicts-step, step-names, names-step, settled}
+use Rattle.steps.proofs.Placing.{pattern-leads}
 
--- two properties that say the same of every relation above R have the same least relation
-pub least-same : (P Q : Rel → Type 0) (R T : Rel)
-    → ((A : Rel) → IsRelation A → Within R A → P A → Q A) → ((A : Rel) → IsRelation A → Within R A → Q A → P A) → Least P R T → Least Q R T
-least-same P Q R T to from t =
+-- an entry that is not the contradiction is a pattern
+pub entry-below : (kind p : ℕ) → (entry kind p ≡ contradictory → ⊥) → entry kind p < 105
+entry-below kind p d =
+    subst (λ (e : ℕ). e < 105) (sym (entry-names kind p (entry-consistent kind p d)))
+    (pattern-below (follows kind p) (follows-closed kind p))
+
+-- each side is a literal of a variable in use
+pub literal-inside : (n x y z : ℕ) → x / 2 < n → y / 2 < n → z / 2 < n → (s : Side) → literalAt x y z s / 2 < n
+literal-inside n x y z a b c never = omega arith
+literal-inside n x y z a b c always = omega arith
+literal-inside n x y z a b c own-x = a
+literal-inside n x y z a b c not-x = omega (arith, negation-half x)
+literal-inside n x y z a b c own-y = b
+literal-inside n x y z a b c not-y = omega (arith, negation-half y)
+literal-inside n x y z a b c own-z = c
+literal-inside n x y z a b c not-z = omega (arith, negation-half z)
+
+-- a pattern of literals is one of those that they are equal to
+pub patterned : {a b c a′ b′ c′ p : ℕ} → a ≡ a′ → b ≡ b′ → c ≡ c′ → Patterned a b c p → Patterned a′ b′ c′ p
+patterned {a} {b} {c} {a′} {b′} {c′} {p} i j k h =
+    subst₃ (λ (u v w : ℕ). Patterned u v w p) i j k h
+
+-- three joins hold what a pattern names
+pub named-three : (n e x y z : ℕ) (xs as′ bs ys : List ℕ) (p q r : ℕ)
+    → p ≡ literalAt x y z (xNamed e) → q ≡ literalAt x y z (yNamed e) → r ≡ literalAt x y z (zNamed e)
+    → Joined n xs x p as′ → Joined n as′ y q bs → Joined n bs z r ys → Named n e x y z xs ys
+named-three n e x y z xs as′ bs ys p q r a b c i j k =
     record {
-      relation = t .relation;
-      above = t .above;
-      has = to T (t .relation) (t .above) (t .has);
-      forced = λ l m e A a w q. t .forced l m e A a w (from A a w q);
+      classes = k .classes;
+      least =
+          least-same (λ (A : Rel). (Holds x p A × Holds y q A) × Holds z r A) (NamesHold e x y z) (kept xs) (kept ys)
+          (λ A s w h. record { of-x = rw (← a) (h .0 .0); of-y = rw (← b) (h .0 .1); of-z = rw (← c) (h .1) })
+          (λ A s w h. ((rw a (h .of-x), rw b (h .of-y)), rw c (h .of-z)))
+          (least-then (λ (A : Rel). Holds x p A × Holds y q A) (Holds z r) (kept xs) (kept bs) (kept ys)
+          (λ A B w h. (w x p (h .0), w y q (h .1)))
+          (least-then (Holds x p) (Holds y q) (kept xs) (kept as′) (kept bs) (λ A B w h. w x p h) (i .least) (j .least))
+          (k .least));
     }
 
--- one equality after the other: the least relation that holds both
-pub least-and : (P : Rel → Type 0) (R S T : Rel) (l m : ℕ) → ((A : Rel) → IsRelation A → Within S A → P S → P A)
-    → Least P R S → Least (Holds l m) S T → Least (λ A. P A × Holds l m A) R T
-least-and P R S T l m kept s t =
-    record {
-      relation = t .relation;
-      above = within-trans R S T (s .above) (t .above);
-      has = (kept T (t .relation) (t .above) (s .has), t .has);
-      forced = λ j k e A a w h. t .forced j k e A a (least-below P R S A s a w (h .0)) (h .1);
-    }
+module _ (n kind x y z p : ℕ) (xs : List ℕ) (k : Classes n xs) (pat : Patterned (lead (at xs) x) (lead (at xs) y) (lead (at xs) z) p) where
+  -- in a consistent array p is the pattern of the relation
+  here : broken (at xs) ≡ false → p ≡ patternOf (kept xs) x y z
+  here c = pattern-leads (at xs) (true-leads n (at xs) (k .canonical) c) x y z p pat
 
--- joining what pattern e names, x first, then y and z, makes the least relation that holds it
-pub names-joined : (e x y z : ℕ) (S T U W : Rel)
-    → Least (Holds x (literalAt x y z (xNamed e))) S T → Least (Holds y (literalAt x y z (yNamed e))) T U
-    → Least (Holds z (literalAt x y z (zNamed e))) U W → Least (NamesHold e x y z) S W
-names-joined e x y z S T U W t u w =
-    let xs : ℕ = literalAt x y z (xNamed e) in
-    let ys : ℕ = literalAt x y z (yNamed e) in
-    let zs : ℕ = literalAt x y z (zNamed e) in
-    least-same (λ A. (Holds x xs A × Holds y ys A) × Holds z zs A) (NamesHold e x y z) S W
-    (λ A a v h. record { of-x = h .0 .0; of-y = h .0 .1; of-z = h .1 })
-    (λ A a v h. ((h .of-x, h .of-y), h .of-z))
-    (least-and (λ A. Holds x xs A × Holds y ys A) S U W z zs (λ A a v h. (v x xs (h .0), v y ys (h .1)))
-    (least-and (Holds x xs) S T U y ys (λ A a v h. v x xs h) t u) w)
+  -- above a contradictory relation every property that asks for equalities holds
+  whole : broken (at xs) ≡ true → (A : Rel) → IsRelation A → Within (kept xs) A → HoldsStep kind x y z (kept xs) A
+  whole c A a w = contradicts-step kind x y z (kept xs) (is-relation (at xs)) A a (w 0 1 (relation-all (at xs) c 0 1))
 
-module _ (t : Triplet) (x : ℕ) (S : Rel) (relation : IsRelation S) where
-  -- the step where its entry is the pattern itself
-  pub stepped-settled : entry (t .kind) (patternOf S x (t .y) (t .z)) ≡ patternOf S x (t .y) (t .z) → StepOf t x S S
-  stepped-settled e = least-none (λ A. HoldsStepOn S A t x) S relation (settled (t .kind) x (t .y) (t .z) S relation e)
+  pub stepped-none : entry kind p ≡ p → Stepped n kind x y z xs xs
+  stepped-none e =
+      record {
+        classes = k;
+        least = least-none (HoldsStep kind x y z (kept xs)) (kept xs) (is-relation (at xs))
+            (⊎-elim
+            (λ (c : broken (at xs) ≡ true). whole c (kept xs) (is-relation (at xs)) (λ l m q. q))
+            (λ (c : broken (at xs) ≡ false).
+            settled kind x y z (kept xs) (is-relation (at xs)) (subst (λ (u : ℕ). entry kind u ≡ u) (here c) e))
+            (either (broken (at xs))));
+      }
 
-  -- where its entry is the contradiction
-  pub stepped-contradictory : (T : Rel) → entry (t .kind) (patternOf S x (t .y) (t .z)) ≡ contradictory → Least (Holds 0 1) S T → StepOf t x S T
-  stepped-contradictory T e =
-      least-same (Holds 0 1) (λ A. HoldsStepOn S A t x) S T
-      (λ A a w h. contradicts-step (t .kind) x (t .y) (t .z) S relation A a h)
-      (λ A a w h. step-contradicts (t .kind) x (t .y) (t .z) S relation A a e h)
+  pub stepped-broken : (ys : List ℕ) → entry kind p ≡ contradictory → Joined n xs 0 1 ys → Stepped n kind x y z xs ys
+  stepped-broken ys e j =
+      record {
+        classes = j .classes;
+        least =
+            least-same (Holds 0 1) (HoldsStep kind x y z (kept xs)) (kept xs) (kept ys)
+            (λ A a w h. contradicts-step kind x y z (kept xs) (is-relation (at xs)) A a h)
+            (λ A a w h.
+            ⊎-elim
+            (λ (c : broken (at xs) ≡ true). w 0 1 (relation-all (at xs) c 0 1))
+            (λ (c : broken (at xs) ≡ false).
+            step-contradicts kind x y z (kept xs) (is-relation (at xs)) A a (subst (λ (u : ℕ). entry kind u ≡ contradictory) (here c) e) h)
+            (either (broken (at xs))))
+            (j .least);
+      }
 
-  -- and elsewhere
-  pub stepped-named : (T : Rel) → (entry (t .kind) (patternOf S x (t .y) (t .z)) ≡ contradictory → ⊥)
-      → Least (NamesHold (entry (t .kind) (patternOf S x (t .y) (t .z))) x (t .y) (t .z)) S T → StepOf t x S T
-  stepped-named T n =
-      least-same (NamesHold (entry (t .kind) (patternOf S x (t .y) (t .z))) x (t .y) (t .z)) (λ A. HoldsStepOn S A t x) S T
-      (λ A a w h. names-step (t .kind) x (t .y) (t .z) S relation A a w n h)
-      (λ A a w h. step-names (t .kind) x (t .y) (t .z) S relation A n h)
-
--- what a step adds to S it adds to all that is above S
-pub step-below : (kind x y z : ℕ) (S A B : Rel) → Within S A → HoldsStep kind x y z A B → HoldsStep kind x y z S B
-step-below kind x y z S A B w h s t added =
-    h s t (λ v sat obeys. added v sat (λ p q e. obeys p q (w (literalAt x y z p) (literalAt x y z q) e)))
-
--- a step stays below every relation above S that it does not enlarge
-pub stepped-below : (t : Triplet) (x : ℕ) (S T A : Rel) → StepOf t x S T → IsRelation A → Within S A → HoldsStepOn A A t x → Within T A
-stepped-below t x S T A s a w h =
-    least-below (λ B. HoldsStepOn S B t x) S T A s a w (step-below (t .kind) x (t .y) (t .z) S A A w h)
-
--- a step that adds nothing does not enlarge S
-pub stepped-nothing : (t : Triplet) (x : ℕ) (S T : Rel) → StepOf t x S T → Within T S → HoldsStepOn S S t x
-stepped-nothing t x S T s w p q added = w (literalAt x (t .y) (t .z) p) (literalAt x (t .y) (t .z) q) (s .has p q added)
-
--- no second relation is what a step makes, or the 0-saturation
-pub step-unique : (t : Triplet) (x : ℕ) (S T U : Rel) → StepOf t x S T → StepOf t x S U → (l m : ℕ) → T l m ≡ U l m
-step-unique t x S T U = least-unique (λ A. HoldsStepOn S A t x) S T U
-
-pub rest-unique : (ts : List Triplet) (S T U : Rel) → RestOf ts S T → RestOf ts S U → (l m : ℕ) → T l m ≡ U l m
-rest-unique ts S T U = least-unique (NoStepEnlarges ts) S T U
+  pub stepped-named : (ys : List ℕ) → (entry kind p ≡ contradictory → ⊥) → Named n (entry kind p) x y z xs ys → Stepped n kind x y z xs ys
+  stepped-named ys d j =
+      record {
+        classes = j .classes;
+        least =
+            least-same (NamesHold (entry kind p) x y z) (HoldsStep kind x y z (kept xs)) (kept xs) (kept ys)
+            (λ A a w h.
+            ⊎-elim
+            (λ (c : broken (at xs) ≡ true). whole c A a w)
+            (λ (c : broken (at xs) ≡ false).
+            names-step kind x y z (kept xs) (is-relation (at xs)) A a w
+            (subst (λ (u : ℕ). entry kind u ≡ contradictory → ⊥) (here c) d)
+            (subst (λ (u : ℕ). NamesHold (entry kind u) x y z A) (here c) h))
+            (either (broken (at xs))))
+            (λ A a w h.
+            ⊎-elim
+            (λ (c : broken (at xs) ≡ true). record {
+              of-x = w _ _ (relation-all (at xs) c _ _);
+              of-y = w _ _ (relation-all (at xs) c _ _);
+              of-z = w _ _ (relation-all (at xs) c _ _);
+            })
+            (λ (c : broken (at xs) ≡ false).
+            subst (λ (u : ℕ). NamesHold (entry kind u) x y z A) (sym (here c))
+            (step-names kind x y z (kept xs) (is-relation (at xs)) A (subst (λ (u : ℕ). entry kind u ≡ contradictory → ⊥) (here c) d) h))
+            (either (broken (at xs))))
+            (j .least);
+      }
