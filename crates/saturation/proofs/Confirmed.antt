@@ -1,20 +1,20 @@
 -- A known gap is check's answer once each of its true flags is refuted as false: by truth tables alone at full depth,
 -- and at a greater depth wherever it was the answer before.
-use Prim.Native.Nat.{ℕ, zero, suc, _+_, _*_, _-_, _/_, _%_, _^_, _≤_, _<_}
-use mathlib.Core.Path.{_≡_, refl, sym, ap, _∙_}
-use mathlib.Core.Bool.{Bool, true, false}
+use Prim.Native.Nat.{ℕ, zero, suc, _*_, _-_, _/_, _%_, _^_, _≤_, _<_}
+use mathlib.Core.Path.{_≡_}
+use mathlib.Core.Bool.{true, false}
 use mathlib.Core.List.{List, [], _∷_}
-use mathlib.Core.Logic.{_⊎_, inl, inr, ⊎-elim}
+use mathlib.Core.Logic.{⊎-elim}
 use native.Mathlib.Omega.{arith}
 use native.Mathlib.Nat.{div-eq-of-lt, div-lt-iff-lt-mul}
 use lib.Pow.{pow-pos, shr-mono}
+use Rattle.relation.proofs.LiteralLaws.{lt-or-ge}
 use Rattle.notation.specs.Guard.{Guard}
 use Rattle.notation.specs.Triplets.{Triplet, negation, literal, triplets}
 use Rattle.truth.specs.Value.{value}
 use Rattle.truth.proofs.Literals.{parity}
 use Rattle.saturation.specs.Saturation.{taken, Flags}
-use Rattle.saturation.specs.Answer.{Verdict, covered, gap, undecided, flagAs, flagsAs, Refuted, Trial, Answer}
-use Rattle.saturation.proofs.Numbers.{lt-or-ge}
+use Rattle.saturation.specs.Answer.{covered, gap, flagAs, flagsAs, Refuted, Trial, Answer}
 use Rattle.saturation.proofs.Depth.{raised}
 use Rattle.saturation.proofs.States.{firstOf, first-all, first-half}
 use Rattle.saturation.proofs.Valuations.{Proper}

@@ -1,25 +1,25 @@
 -- Fixed flags decide every triplet: at rest with each flag tied, each triplet's variable is tied to its computed value.
 use Prim.Native.Nat.{ℕ, zero, suc, _+_, _*_, _-_, _/_, _%_, _^_, _≤_, _<_}
-use mathlib.Core.Path.{_≡_, refl, sym, ap, ap₂, _∙_, subst}
-use mathlib.Core.Bool.{Bool, true, false, not}
+use mathlib.Core.Path.{_≡_, sym, ap, _∙_, subst}
+use mathlib.Core.Bool.{Bool, true, false, not, false≢true}
 use mathlib.Core.List.{List}
-use mathlib.Core.Logic.{_⊎_, inl, inr, ⊎-elim}
+use mathlib.Core.Logic.{_⊎_, ⊎-elim}
 use native.Mathlib.Omega.{arith}
 use native.Mathlib.Nat.{div-one}
 use lib.Dec.{eqb}
 use lib.Pow.{shr-shr}
 use Rattle.notation.specs.Ceilings.{flagCeiling}
-use Rattle.notation.specs.Triplets.{Triplet, tripletVariable, negation}
+use Rattle.notation.specs.Triplets.{tripletVariable, negation}
 use Rattle.notation.specs.Shape.{Names, Shape, kindAt, yAt, zAt}
 use Rattle.relation.specs.Relation.{Rel, IsRelation}
+use Rattle.relation.proofs.LiteralLaws.{either, split-eq}
 use Rattle.truth.specs.Value.{bit}
 use Rattle.truth.specs.Computed.{literalValue, computed, Valued}
 use Rattle.truth.proofs.Literals.{literal-even, literal-odd, parity}
 use Rattle.truth.proofs.Computing.{valued}
-use Rattle.steps.specs.Step.{connected, HoldsStep}
 use Rattle.steps.specs.Rest.{HoldsStepOn}
 use Rattle.steps.proofs.RestLaws.{tripletAt}
-use Rattle.saturation.proofs.Numbers.{split-eq}
+use Rattle.saturation.proofs.States.{BitsOf, state-of}
 use Rattle.saturation.proofs.Fixed.{literalFor, step-ties, negation-ties}
 use Rattle.saturation.proofs.Valuations.{gate-connected}
 
@@ -76,46 +76,23 @@ module _ (n s c : ℕ) (xs : List ℕ) (v : ℕ → Bool) (holds : Valued n s c 
   pub triplet-tied : (j : ℕ) → j < c → Follows (tripletVariable (suc j))
   triplet-tied = all-follow c (omega arith)
 
--- one flag more: the bits of the flags before it stay
-bit-before : (m i p b : ℕ) → b < 2 → i ≤ m → bit (2 * p + b) (suc m - i) ≡ bit p (m - i)
-unfolding bit
-bit-before m i p b h q =
-    let e : suc m - i ≡ 1 + (m - i) = omega arith in
-    let half : (2 * p + b) / 2 ≡ p = omega arith in
-    let deeper : (2 * p + b) / 2 ^ (suc m - i) ≡ p / 2 ^ (m - i) = rw (← e, half) at (sym (shr-shr (2 * p + b) 1 (m - i))) in
-    ap (λ (t : ℕ). eqb (t % 2) 1) deeper
-
-bit-last : (m p b : ℕ) → b < 2 → bit (2 * p + b) (m - m) ≡ eqb b 1
-unfolding bit
-bit-last m p b h =
-    let e : m - m ≡ 0 = omega arith in
-    let one : (2 * p + b) / 1 % 2 ≡ b = rw (div-one (2 * p + b)) (omega arith) in
-    rw e (ap (λ (t : ℕ). eqb t 1) one)
-
--- A ties the first m flags as the state p of m flags has them
+-- A ties the n flags as the state s has them
 abbrev pub TiedAs : Rel → ℕ → ℕ → Type 0
-TiedAs A m p = (p < 2 ^ m) × ((i : ℕ) → 0 < i → i ≤ m → A (2 * i) (literalFor (bit p (m - i))) ≡ true)
-
-one-more : (A : Rel) (m p b : ℕ) → TiedAs A m p → b < 2 → A (2 * suc m) (literalFor (eqb b 1)) ≡ true → TiedAs A (suc m) (2 * p + b)
-one-more A m p b t h e =
-    let double : 2 ^ suc m ≡ 2 * 2 ^ m = omega arith in (
-      rw double (omega (arith, t .0)),
-      λ i l q.
-          ⊎-elim
-          (λ (d : i ≡ suc m). rw (d, bit-last (suc m) p b h) e)
-          (λ (d : i ≡ suc m → ⊥). rw (bit-before m i p b h (omega arith)) (t .1 i l (omega arith)))
-          (split-eq i (suc m)),
-    )
+TiedAs A n s = (s < 2 ^ n) × ((i : ℕ) → 0 < i → i ≤ n → A (2 * i) (literalFor (bit s (n - i))) ≡ true)
 
 -- where each flag is tied, there is such a state
-pub tied-state : (n : ℕ) (A : Rel) → ((i : ℕ) → 0 < i → i ≤ n → (A (2 * i) 0 ≡ true) ⊎ (A (2 * i) 1 ≡ true)) → (p : ℕ) × TiedAs A n p
-tied-state zero A ties = (0, (omega arith, λ i p q. absurd (omega arith)))
-tied-state (suc m) A ties =
-    let before : (p : ℕ) × TiedAs A m p = tied-state m A (λ i p q. ties i p (omega arith)) in
-    ⊎-elim
-    (λ (e : A (2 * suc m) 0 ≡ true). (2 * before .0 + 1, one-more A m (before .0) 1 (before .1) (omega arith) e))
-    (λ (e : A (2 * suc m) 1 ≡ true). (2 * before .0 + 0, one-more A m (before .0) 0 (before .1) (omega arith) e))
-    (ties (suc m) (omega arith) (omega arith))
+pub tied-state : (n : ℕ) (A : Rel) → ((i : ℕ) → 0 < i → i ≤ n → (A (2 * i) 0 ≡ true) ⊎ (A (2 * i) 1 ≡ true)) → (s : ℕ) × TiedAs A n s
+tied-state n A ties =
+    let found : (s : ℕ) × BitsOf n (λ i. A (2 * i) 0) s = state-of n (λ i. A (2 * i) 0) in
+    (found .0, (found .1 .0, λ i p q. rw (found .1 .1 i p q) (as-tied i (ties i p q))))
+  where
+    as-tied : (i : ℕ) → (A (2 * i) 0 ≡ true) ⊎ (A (2 * i) 1 ≡ true) → A (2 * i) (literalFor (A (2 * i) 0)) ≡ true
+    as-tied i t =
+        ⊎-elim
+        (λ (e : A (2 * i) 0 ≡ true). rw e e)
+        (λ (e : A (2 * i) 0 ≡ false).
+        rw e (⊎-elim (λ (h : A (2 * i) 0 ≡ true). absurd (false≢true (sym e ∙ h))) (λ (h : A (2 * i) 1 ≡ true). h) t))
+        (either (A (2 * i) 0))
 
 -- fixed flags decide: each triplet's variable is tied to its value in the state that the flags are
 pub flags-decide : (n c : ℕ) (xs : List ℕ) → n ≤ flagCeiling → Shape n c xs → (A : Rel) → IsRelation A

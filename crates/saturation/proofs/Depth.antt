@@ -1,16 +1,22 @@
 -- Depth only helps: what is stable at a depth is stable at every lower one.
 use Prim.Native.Nat.{ℕ, zero, suc, _+_, _*_, _≤_}
-use mathlib.Core.Path.{_≡_, refl}
+use mathlib.Core.Path.{_≡_}
 use mathlib.Core.Bool.{true}
-use mathlib.Core.List.{List}
-use mathlib.Core.Logic.{_⊎_, inl, inr, ⊎-elim}
+use mathlib.Core.List.{List, [], _∷_}
+use mathlib.Core.Logic.{_⊎_, ⊎-elim, _↔_}
 use native.Mathlib.Omega.{arith}
 use Rattle.notation.specs.Triplets.{Triplet}
+use Rattle.relation.proofs.RelationLaws.{least-unique}
 use Rattle.steps.specs.Rest.{NoStepEnlarges}
-use Rattle.saturation.specs.Saturation.{taking, Stable, Saturated}
-use Rattle.relation.specs.Relation.{Rel, IsRelation, Within, Forced}
-use Rattle.saturation.proofs.Numbers.{split-eq}
+use Rattle.saturation.specs.Saturation.{taking, Stable, Saturated, SaturationOf}
+use Rattle.relation.specs.Relation.{Rel, IsRelation, Forced}
+use Rattle.relation.proofs.LiteralLaws.{split-eq}
 use Rattle.saturation.proofs.Taking.{above-taking, taking-above, taking-holds}
+
+-- each variable of a list is one that is split
+abbrev pub Among : (ℕ → Type 0) → List ℕ → Type 0
+Among D [] = Unit {0}
+Among D (f ∷ fs) = D f × Among D fs
 
 module _ (D : ℕ → Type 0) (ts : List Triplet) where
   pub stable-rest : (k : ℕ) (S : Rel) → Stable D ts k S → NoStepEnlarges ts S
@@ -82,14 +88,35 @@ module _ (D : ℕ → Type 0) (ts : List Triplet) where
             (splits f d),
       )
 
-  -- where T is the saturation of R, adding l to T is adding it to R
-  pub in-turn : (k : ℕ) (R T : Rel) (l a b : ℕ) → ((c d : ℕ) → T c d ≡ true → Saturated D ts k R c d)
-      → Saturated D ts k (taking T l) a b → Saturated D ts k (taking R l) a b
-  in-turn k R T l a b forced s A r w h =
-      s A r
-      (above-taking T A l (λ c d e. forced c d e A r (taking-above R A l w) h) (taking-holds R A l w))
-      h
+  -- saturation is unique: the order of work never shows
+  pub saturation-unique : (k : ℕ) (R S T : Rel) → SaturationOf D ts k R S → SaturationOf D ts k R T → (l m : ℕ) → S l m ≡ T l m
+  saturation-unique k = least-unique (Stable D ts k)
 
-  pub at-once : (k : ℕ) (R T : Rel) (l a b : ℕ) → Within R T → Saturated D ts k (taking R l) a b → Saturated D ts k (taking T l) a b
-  at-once k R T l a b above s A r w h =
-      s A r (above-taking R A l (λ c d e. taking-above T A l w c d (above c d e)) (taking-holds T A l w)) h
+  -- the k-saturation holds what is saturated, and nothing else
+  pub saturated-held : (k : ℕ) (R T : Rel) → SaturationOf D ts k R T → (l m : ℕ) → (T l m ≡ true) ↔ Saturated D ts k R l m
+  saturated-held k R T t l m = (t .forced l m, λ s. s T (t .relation) (t .above) (t .has))
+
+  -- adding in turn is adding at once: where T is the saturation of R, adding l to T is adding it to R
+  pub in-turn : (k : ℕ) (R T : Rel) (l a b : ℕ) → SaturationOf D ts k R T
+      → Saturated D ts k (taking T l) a b ↔ Saturated D ts k (taking R l) a b
+  in-turn k R T l a b t = (less, more)
+    where
+      less : Saturated D ts k (taking T l) a b → Saturated D ts k (taking R l) a b
+      less s A r w h =
+          s A r
+          (above-taking T A l (λ c d e. t .forced c d e A r (taking-above R A l w) h) (taking-holds R A l w))
+          h
+
+      more : Saturated D ts k (taking R l) a b → Saturated D ts k (taking T l) a b
+      more s A r w h =
+          s A r (above-taking R A l (λ c d e. taking-above T A l w c d (t .above c d e)) (taking-holds T A l w)) h
+
+  -- so the saturation of T with l added is that of R with l added
+  pub saturated-in-turn : (k : ℕ) (R T U : Rel) (l : ℕ) → SaturationOf D ts k R T → SaturationOf D ts k (taking T l) U → SaturationOf D ts k (taking R l) U
+  saturated-in-turn k R T U l t u =
+      record {
+        relation = u .relation;
+        above = above-taking R U l (λ c d e. taking-above T U l (u .above) c d (t .above c d e)) (taking-holds T U l (u .above));
+        has = u .has;
+        forced = λ a b e. in-turn k R T l a b t .0 (u .forced a b e);
+      }

@@ -1,22 +1,22 @@
 -- Enough depth decides: from as many splits as flags are left, a relation that leaves no gap is contradictory.
-use Prim.Native.Nat.{ℕ, zero, suc, _+_, _*_, _-_, _/_, _%_, _^_, _≤_, _<_}
-use mathlib.Core.Path.{_≡_, refl, sym, ap, ap₂, _∙_, subst}
-use mathlib.Core.Bool.{Bool, true, false, not}
-use mathlib.Core.List.{List, [], _∷_}
-use mathlib.Core.Logic.{_⊎_, inl, inr, ⊎-elim}
+use Prim.Native.Nat.{ℕ, zero, suc, _+_, _*_, _-_, _/_, _%_, _^_, _≤_}
+use mathlib.Core.Path.{_≡_, sym, ap, _∙_}
+use mathlib.Core.Bool.{true}
+use mathlib.Core.List.{[], _∷_}
+use mathlib.Core.Logic.{⊎-elim}
 use native.Mathlib.Omega.{arith}
 use native.Mathlib.Nat.{div-one}
 use lib.Pow.{shr-shr}
 use Rattle.notation.specs.Guard.{Guard}
 use Rattle.notation.specs.Triplets.{negation, literal, triplets}
-use Rattle.relation.specs.Relation.{Rel, IsRelation, Within}
+use Rattle.relation.specs.Relation.{Rel, IsRelation}
 use Rattle.truth.specs.Value.{value}
 use Rattle.truth.proofs.Literals.{parity}
-use Rattle.saturation.specs.Saturation.{taking, taken, Stable, Flags}
-use Rattle.saturation.specs.Answer.{Verdict, covered, gap, undecided, flagAs, flagsAs, Refuted, Trial, Answer}
+use Rattle.saturation.specs.Saturation.{Stable, Flags}
+use Rattle.saturation.specs.Answer.{undecided, flagAs, flagsAs, Refuted, Trial, Answer}
 use Rattle.saturation.proofs.Taking.{HoldsAll, taken-above, taking-above, taking-holds}
 use Rattle.saturation.proofs.Depth.{stable-rest}
-use Rattle.saturation.proofs.States.{firstOf, first-half, holds-more}
+use Rattle.saturation.proofs.States.{not-both, firstOf, holds-more}
 use Rattle.saturation.proofs.Valuations.{Proper}
 use Rattle.saturation.proofs.Verdicts.{all-fixed, refuted-true}
 
@@ -86,15 +86,12 @@ module _ (D : ℕ → Type 0) (n : ℕ) (g : Guard) (proper : Proper n g) (split
     trial-goes-on zero p h open′ trial refuted = open′ refuted
     trial-goes-on (suc i) p h open′ trial refuted =
         ⊎-elim
-        (λ (z : p % 2 ≡ 0). clash (trial .1 .1 (rw z at refuted)) z)
+        (λ (z : p % 2 ≡ 0). not-both (p % 2) (trial .1 .1 (rw z at refuted)) z)
         (λ (o : p % 2 ≡ 1).
         trial-goes-on i (p / 2) (omega arith) open′ (trial .0)
         (no-gap-refuted (suc (n - suc i)) i (p / 2) k (omega arith) (omega arith) (both o)))
         (parity p)
       where
-        clash : {r : ℕ} → r ≡ 1 → r ≡ 0 → ⊥
-        clash {r} a b = omega arith
-
         both : p % 2 ≡ 1 → NoGap (suc (n - suc i)) (p / 2)
         both o s e =
             let r : ℕ = n - suc i in

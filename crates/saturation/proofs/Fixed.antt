@@ -1,7 +1,7 @@
 -- Fixed flags decide: where no step enlarges a relation that ties each flag, it ties the root to the guard's value.
-use Prim.Native.Nat.{ℕ, zero, suc, _+_, _*_, _-_, _≤_, _<_}
-use mathlib.Core.Path.{_≡_, refl, sym, ap, ap₂, _∙_, subst}
-use mathlib.Core.Bool.{Bool, true, false, not, Bool·beq, Bool·not-not, _||_}
+use Prim.Native.Nat.{ℕ, _+_, _*_, _-_, _≤_, _<_}
+use mathlib.Core.Path.{_≡_, refl, sym, ap₂, _∙_}
+use mathlib.Core.Bool.{Bool, true, false, not, Bool·not-not}
 use mathlib.Core.List.{List, [], _∷_, _++_}
 use native.Mathlib.Omega.{arith}
 use Rattle.notation.specs.Tokens.{Sign, same, implies, or, and}
@@ -11,7 +11,7 @@ use Rattle.relation.specs.Relation.{Rel, IsRelation}
 use Rattle.truth.specs.Value.{bit, table, value}
 use Rattle.truth.specs.Computed.{FlagsWithin}
 use Rattle.truth.proofs.Root.{count-triplets}
-use Rattle.steps.specs.Step.{Side, never, always, own-x, own-y, own-z, Values, literalAt, truthAt, connected, HoldsStep}
+use Rattle.steps.specs.Step.{Side, never, always, own-x, own-y, own-z, Values, literalAt, truthAt, connected}
 use Rattle.steps.specs.Rest.{Each, HoldsStepOn}
 use Rattle.steps.proofs.RestLaws.{each-left, each-right}
 

@@ -1,6 +1,6 @@
-pub mod Numbers
 pub mod Taking
 pub mod Depth
+pub mod Splits
 pub mod Truth
 pub mod Fixed
 pub mod States
@@ -8,5 +8,10 @@ pub mod Valuations
 pub mod Decided
 pub mod Verdicts
 pub mod Enough
+pub mod Untied
 pub mod Confirmed
+pub mod Demands
 pub mod Slips
+pub mod Sketches
+pub mod Certificates
+pub mod Desk

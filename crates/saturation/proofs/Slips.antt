@@ -1,13 +1,12 @@
 -- Two slips that steps must not make: `!A>A` with root true makes A true, and `A=B` with root false ties no flag.
-use Prim.Native.Nat.{ℕ, zero, suc, _+_, _*_, _≤_, _<_}
-use mathlib.Core.Path.{_≡_, refl, sym, ap, _∙_}
+use Prim.Native.Nat.{ℕ, zero, suc, _*_, _≤_, _<_}
+use mathlib.Core.Path.{_≡_, refl, sym}
 use mathlib.Core.Bool.{Bool, true, false, not, _||_, false≢true}
-use mathlib.Core.List.{List, [], _∷_}
+use mathlib.Core.List.{[], _∷_}
 use native.Mathlib.Omega.{arith}
 use Rattle.notation.specs.Tokens.{same, implies}
 use Rattle.notation.specs.Guard.{Guard, flag, negated, joined, connectives}
 use Rattle.notation.specs.Triplets.{negation, tripletOf, literalOf, literal, triplets}
-use Rattle.relation.specs.Relation.{Rel, IsRelation, Within}
 use Rattle.truth.specs.Value.{bit, table, value}
 use Rattle.steps.specs.Step.{always, own-x, not-y, own-z}
 use Rattle.saturation.specs.Saturation.{taken, Saturated}

@@ -1,12 +1,12 @@
 -- What lies above assumptions: a relation that holds each literal that is taken as true.
-use Prim.Native.Nat.{ℕ, zero, suc, _+_, _*_}
-use mathlib.Core.Path.{_≡_, refl, sym, ap, ap₂, _∙_}
+use Prim.Native.Nat.{ℕ}
+use mathlib.Core.Path.{_≡_, refl}
 use mathlib.Core.Bool.{Bool, true, false, _&&_, _||_, false≢true}
 use mathlib.Core.List.{List, [], _∷_}
 use mathlib.Core.Logic.{_⊎_, inl, inr, ⊎-elim}
 use lib.Dec.{eqb}
 use borrow.Author.Tests.{eqb-true, eq-eqb}
-use Rattle.relation.specs.Relation.{Rel, IsRelation, Within, Forced}
+use Rattle.relation.specs.Relation.{Rel, Within}
 use Rattle.saturation.specs.Saturation.{taking, taken}
 
 or-either : (a b : Bool) → a || b ≡ true → (a ≡ true) ⊎ (b ≡ true)

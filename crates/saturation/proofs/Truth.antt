@@ -1,18 +1,19 @@
 -- Truth is stable: the relation of a truth valuation that satisfies the triplets is stable at every depth.
 use Prim.Native.Nat.{ℕ, zero, suc, _+_, _*_}
-use mathlib.Core.Path.{_≡_, refl, sym, ap, ap₂, _∙_}
-use mathlib.Core.Bool.{Bool, true, false, not, Bool·beq, Bool·not-not, false≢true}
+use mathlib.Core.Path.{_≡_, refl, sym, ap, _∙_}
+use mathlib.Core.Bool.{Bool, true, false, not, Bool·beq, false≢true}
 use mathlib.Core.List.{List, [], _∷_}
-use mathlib.Core.Logic.{_⊎_, inl, inr, ⊎-elim}
+use mathlib.Core.Logic.{⊎-elim}
 use Rattle.notation.specs.Triplets.{Triplet, negation}
-use Rattle.relation.specs.Relation.{Rel, IsRelation, Within, Forced}
+use Rattle.relation.specs.Relation.{Rel, IsRelation, Within}
+use Rattle.relation.proofs.LiteralLaws.{either}
 use Rattle.truth.specs.Computed.{literalValue}
 use Rattle.truth.proofs.Literals.{literal-even, literal-odd, literal-negation}
-use Rattle.steps.specs.Step.{Side, never, always, own-x, not-x, own-y, not-y, own-z, not-z, Values, literalAt, truthAt, connected, Satisfies, Obeys, HoldsStep}
-use Rattle.steps.specs.Rest.{Each, HoldsStepOn, NoStepEnlarges}
-use Rattle.steps.proofs.Sides.{either, beq-eq, eq-beq, not-self}
+use Rattle.steps.specs.Step.{Side, never, always, own-x, not-x, own-y, not-y, own-z, not-z, Values, literalAt, truthAt, connected}
+use Rattle.steps.specs.Rest.{Each, HoldsStepOn}
+use Rattle.steps.proofs.Sides.{beq-eq, eq-beq, not-self}
 use Rattle.steps.proofs.RestLaws.{each-map}
-use Rattle.saturation.specs.Saturation.{taking, taken, Stable, Saturated}
+use Rattle.saturation.specs.Saturation.{taken, Stable, Saturated}
 use Rattle.saturation.proofs.Taking.{above-taking, HoldsAll, above-taken}
 
 -- the relation of a truth valuation: literals of equal truth are equal

@@ -1,17 +1,17 @@
 -- The truth valuation of a state: it satisfies the guard's triplets, and the root has the guard's value.
-use Prim.Native.Nat.{ℕ, zero, suc, _+_, _*_, _-_, _/_, _%_, _≤_, _<_}
-use mathlib.Core.Path.{_≡_, refl, sym, ap, _∙_, subst}
-use mathlib.Core.Bool.{Bool, true, false, not}
-use mathlib.Core.List.{List, [], _∷_, _++_}
+use Prim.Native.Nat.{ℕ, zero, suc, _+_, _*_, _-_, _/_, _≤_, _<_}
+use mathlib.Core.Path.{_≡_, refl, sym, _∙_}
+use mathlib.Core.Bool.{Bool, true, false}
 use mathlib.Core.Logic.{_⊎_, inl, inr, ⊎-elim}
 use native.Mathlib.Omega.{arith}
 use lib.ListN.{length}
+use Rattle.relation.proofs.LiteralLaws.{negation-half}
 use Rattle.notation.specs.Ceilings.{flagCeiling}
 use Rattle.notation.specs.Tokens.{Sign, same, implies, or, and}
 use Rattle.notation.specs.Guard.{Guard, flag, truth, negated, joined, connectives}
 use Rattle.notation.specs.Triplets.{Triplet, tripletVariable, negation, tripletOf, literalOf, literal, triplets, numbers}
 use Rattle.notation.specs.Shape.{Names, Shape, kindAt, yAt, zAt}
-use Rattle.truth.specs.Value.{bit, table, value}
+use Rattle.truth.specs.Value.{bit, value}
 use Rattle.truth.specs.Computed.{literalValue, gate, computed, FlagsWithin, Valued}
 use Rattle.truth.proofs.Literals.{literal-even}
 use Rattle.truth.proofs.Computing.{valued}
@@ -38,10 +38,6 @@ Placed n t x = (t .kind ≤ 1) × Before n (x / 2) (t .y) × Before n (x / 2) (t
 before-later : (n w u l : ℕ) → w ≤ u → Before n w l → Before n u l
 before-later n w u l h =
     ⊎-elim (λ (p : l / 2 ≤ n). inl p) (λ (p : (tripletVariable 0 < l / 2) × (l / 2 < w)). inr (p .0, omega arith))
-
-negation-half : (l : ℕ) → negation l / 2 ≡ l / 2
-unfolding negation
-negation-half l = omega arith
 
 before-negation : (n w l : ℕ) → Before n w l → Before n w (negation l)
 before-negation n w l h = rw (negation-half l) h

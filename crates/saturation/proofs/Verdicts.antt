@@ -1,29 +1,27 @@
 -- Check's answer: covered is said only of a guard that is true in every state, a gap is the first state that makes
 -- it false, no second answer holds, and from depth n up the answer is never undecided.
-use Prim.Native.Nat.{ℕ, zero, suc, _+_, _*_, _-_, _/_, _%_, _^_, _≤_, _<_}
-use mathlib.Core.Path.{_≡_, refl, sym, ap, _∙_, subst}
-use mathlib.Core.Bool.{Bool, true, false, not, false≢true}
+use Prim.Native.Nat.{ℕ, zero, suc, _*_, _-_, _/_, _%_, _≤_, _<_}
+use mathlib.Core.Path.{_≡_, refl, sym, ap, _∙_}
+use mathlib.Core.Bool.{Bool, true, false, not}
 use mathlib.Core.List.{List, [], _∷_}
-use mathlib.Core.Logic.{_⊎_, inl, inr, ⊎-elim, _↔_}
+use mathlib.Core.Logic.{⊎-elim}
 use native.Mathlib.Omega.{arith}
-use native.Mathlib.Nat.{div-one}
-use lib.Pow.{shr-shr}
 use Rattle.notation.specs.Guard.{Guard}
 use Rattle.notation.specs.Triplets.{Triplet, negation, literal, triplets}
-use Rattle.relation.specs.Relation.{Rel, IsRelation, Within, Forced}
+use Rattle.relation.specs.Relation.{Rel, IsRelation}
+use Rattle.relation.proofs.LiteralLaws.{split-eq, either}
 use Rattle.truth.specs.Value.{bit, value}
 use Rattle.truth.specs.Computed.{literalValue}
 use Rattle.truth.proofs.Literals.{literal-even, literal-negation, parity}
 use Rattle.steps.specs.Rest.{NoStepEnlarges}
-use Rattle.steps.proofs.Sides.{either, negation-twice}
-use Rattle.saturation.specs.Saturation.{taking, taken, Stable, Saturated, Flags}
+use Rattle.steps.proofs.Sides.{negation-twice}
+use Rattle.saturation.specs.Saturation.{taken, Saturated}
 use Rattle.saturation.specs.Answer.{Verdict, covered, gap, undecided, flagAs, flagsAs, Refuted, Trial, Answer}
-use Rattle.saturation.proofs.Numbers.{split-eq}
-use Rattle.saturation.proofs.Taking.{HoldsAll, above-taken, taken-above, taking-above, taking-holds}
-use Rattle.saturation.proofs.Depth.{stable-rest, raised}
+use Rattle.saturation.proofs.Taking.{HoldsAll, above-taken, taken-above}
+use Rattle.saturation.proofs.Depth.{stable-rest}
 use Rattle.saturation.proofs.Truth.{AllTrue, Satisfying, agreeing, all-held, true-literal, false-literal, saturated-true, never-refuted}
 use Rattle.saturation.proofs.Fixed.{root-tied, literalFor}
-use Rattle.saturation.proofs.States.{firstOf, first-all, first-half, first-true, first-tied, holds-more}
+use Rattle.saturation.proofs.States.{not-both, firstOf, first-all, first-half, first-true, first-tied}
 use Rattle.saturation.proofs.Valuations.{Proper, valuation, valuation-satisfies, valuation-flags, valuation-root}
 
 for-value : (v : ℕ → Bool) → v 0 ≡ true → (b : Bool) → literalValue v (literalFor b) ≡ b
@@ -82,12 +80,14 @@ module _ (D : ℕ → Type 0) (n : ℕ) (g : Guard) (proper : Proper n g) (k : �
       r .transitive 0 (literal 0 g) 1 (r .symmetric (literal 0 g) 0 p)
       (rw (negation-twice (literal 0 g)) at (r .negating (negation (literal 0 g)) 0 q))
 
+  pub tied-contradicts : (s : ℕ) (A : Rel) → value n s g ≡ true → IsRelation A → NoStepEnlarges (triplets 0 g) A
+      → A (negation (literal 0 g)) 0 ≡ true → ((i : ℕ) → 0 < i → i ≤ n → A (2 * i) (literalFor (bit s (n - i))) ≡ true) → A 0 1 ≡ true
+  tied-contradicts s A e r rests root tied = both-roots A r (rw e at (root-tied A r n s tied g 0 (proper .within) rests)) root
+
   pub all-fixed : (s : ℕ) (A : Rel) → value n s g ≡ true → IsRelation A → NoStepEnlarges (triplets 0 g) A
       → A (negation (literal 0 g)) 0 ≡ true → HoldsAll A (flagsAs n s) → A 0 1 ≡ true
   all-fixed s A e r rests root flags =
-      let here : HoldsAll A (flagsAs n (firstOf n s n)) = rw (first-all n s) flags in
-      let tied : A (literal 0 g) (literalFor (value n s g)) ≡ true = root-tied A r n s (λ i p q. first-tied n s A r n (omega arith) here i p q) g 0 (proper .within) rests in
-      both-roots A r (rw e at tied) root
+      tied-contradicts s A e r rests root (λ i p q. first-tied n s A r n (omega arith) (rw (first-all n s) flags) i p q)
 
   pub fixed-refuted : (s : ℕ) → value n s g ≡ true → Refutes (flagsAs n s)
   fixed-refuted s e A r w stable =
@@ -141,17 +141,14 @@ module _ (D : ℕ → Type 0) (ts : List Triplet) (root k : ℕ) where
       (λ (zero : p % 2 ≡ 0).
       ⊎-elim
       (λ (none : q % 2 ≡ 0). omega arith)
-      (λ (some : q % 2 ≡ 1). absurd (clash (a .1 .1 (rw half (b .1 .0 some))) zero))
+      (λ (some : q % 2 ≡ 1). absurd (not-both (p % 2) (a .1 .1 (rw half (b .1 .0 some))) zero))
       (parity q))
       (λ (one : p % 2 ≡ 1).
       ⊎-elim
-      (λ (none : q % 2 ≡ 0). absurd (clash (b .1 .1 (rw half at (a .1 .0 one))) none))
+      (λ (none : q % 2 ≡ 0). absurd (not-both (q % 2) (b .1 .1 (rw half at (a .1 .0 one))) none))
       (λ (some : q % 2 ≡ 1). omega arith)
       (parity q))
       (parity p)
-    where
-      clash : {r : ℕ} → r ≡ 1 → r ≡ 0 → ⊥
-      clash {r} a b = omega arith
 
   pub answer-unique : (n : ℕ) (v w : Verdict) → Answer D ts root k n v → Answer D ts root k n w → v ≡ w
   answer-unique n covered covered a b = refl

@@ -1,11 +1,11 @@
 -- What check answers at a depth, by saturation and the trial of flags.
 use Prim.Native.Nat.{ℕ, zero, suc, _+_, _*_, _/_, _%_}
 use mathlib.Core.Path.{_≡_}
-use mathlib.Core.Bool.{Bool, true, false}
 use mathlib.Core.List.{List, [], _∷_}
 use mathlib.Core.Logic.{_↔_}
-use Rattle.notation.specs.Triplets.{Triplet, negation}
-use Rattle.saturation.specs.Saturation.{taken, Saturated}
+use Rattle.notation.specs.Guard.{Guard}
+use Rattle.notation.specs.Triplets.{Triplet, negation, literal, triplets}
+use Rattle.saturation.specs.Saturation.{taken, Saturated, Flags}
 
 -- covered, a gap with its state, or undecided
 pub data Verdict : Type 0 where
@@ -38,3 +38,7 @@ module _ (D : ℕ → Type 0) (ts : List Triplet) (root k : ℕ) where
   Answer n covered = Refuted []
   Answer n (gap s) = (Refuted [] → ⊥) × Trial n s × (Refuted (flagsAs n s) → ⊥)
   Answer n undecided = (Refuted [] → ⊥) × ((s : ℕ) × Trial n s × Refuted (flagsAs n s))
+
+-- what check answers for a guard of n flags at depth k, splitting on flags
+abbrev pub Checked : ℕ → Guard → ℕ → Verdict → Type 0
+Checked n g k v = Answer (Flags n) (triplets 0 g) (literal 0 g) k n v

@@ -6,6 +6,7 @@ use mathlib.Core.List.{List, [], _∷_}
 use lib.Dec.{eqb}
 use Rattle.notation.specs.Triplets.{Triplet}
 use Rattle.relation.specs.Relation.{Rel, Forced}
+use Rattle.relation.specs.Least.{Least}
 use Rattle.steps.specs.Rest.{NoStepEnlarges}
 
 -- R with the literal k taken as true
@@ -31,6 +32,10 @@ Stable D ts (suc k) S =
 -- l = m is in the k-saturation of R
 abbrev pub Saturated : (ℕ → Type 0) → List Triplet → ℕ → Rel → ℕ → ℕ → Type 0
 Saturated D ts k R l m = Forced (Stable D ts k) R l m
+
+-- T is the k-saturation of R
+abbrev pub SaturationOf : (ℕ → Type 0) → List Triplet → ℕ → Rel → Rel → Type 0
+SaturationOf D ts k R T = Least (Stable D ts k) R T
 
 -- the variables that are split: the flags 1 to n
 abbrev pub Flags : ℕ → ℕ → Type 0

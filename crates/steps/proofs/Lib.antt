@@ -5,6 +5,8 @@ pub mod Patterns
 pub mod Strongest
 pub mod StepLaws
 pub mod RestLaws
+pub mod Unique
 pub mod Placing
 pub mod Stepping
 pub mod Resting
+pub mod Listing

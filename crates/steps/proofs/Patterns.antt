@@ -1,14 +1,15 @@
 -- The pattern of closed equalities names all of them: what holds the three named equalities holds every one.
-use Prim.Native.Nat.{ℕ, zero, suc, _+_, _*_, _/_, _%_, _≤_, _<_, zero-le, suc-le-suc}
+use Prim.Native.Nat.{ℕ, suc, _+_, _*_, _/_, _%_, _≤_, _<_, zero-le, suc-le-suc}
 use mathlib.Core.Path.{_≡_, refl, sym, ap, _∙_, fun-ext, subst⁻¹}
-use mathlib.Core.Bool.{Bool, true, false, not}
+use mathlib.Core.Bool.{Bool, true, false}
 use mathlib.Core.List.{List, [], _∷_}
 use native.Mathlib.Omega.{arith}
 use lib.ListN.{getD}
 use Rattle.notation.specs.Tokens.{choose}
 use Rattle.steps.specs.Step.{Side, never, always, own-x, not-x, own-y, not-y, own-z, not-z}
 use Rattle.steps.specs.Table.{xNames, yNames, zNames, xNamed, yNamed, zNamed, earliest, pattern}
-use Rattle.steps.proofs.Sides.{bool-eq, other, other-twice, Closed, Consistent}
+use Rattle.relation.proofs.RelationLaws.{bool-eq}
+use Rattle.steps.proofs.Sides.{other, other-twice, Closed, Consistent}
 
 -- the first of a list that passes a test, or d
 abbrev pub first : (Side → Bool) → List Side → Side → Side

@@ -1,9 +1,9 @@
 -- What holds of each triplet of a list: by parts, and by the numbers that the list is written as.
 use Prim.Native.Nat.{ℕ, zero, suc, _+_, _*_, _<_}
-use mathlib.Core.Path.{_≡_, refl, sym, ap, subst, subst⁻¹}
+use mathlib.Core.Path.{_≡_}
 use mathlib.Core.List.{List, [], _∷_, _++_}
 use native.Mathlib.Omega.{arith}
-use lib.ListN.{length, getD}
+use lib.ListN.{length}
 use Rattle.notation.specs.Triplets.{Triplet, tripletVariable, numbers}
 use Rattle.notation.specs.Shape.{kindAt, yAt, zAt}
 use Rattle.steps.specs.Rest.{Each}
@@ -24,7 +24,7 @@ each-right P c d (t ∷ ts) us p e = each-right P (c + 1) d ts us (omega arith) 
 abbrev pub tripletAt : List ℕ → ℕ → Triplet
 tripletAt xs j = record { kind = kindAt xs j; y = yAt xs j; z = zAt xs j }
 
-at-next : (t : Triplet) (ts : List Triplet) (j : ℕ) → tripletAt (numbers (t ∷ ts)) (suc j) ≡ tripletAt (numbers ts) j
+pub at-next : (t : Triplet) (ts : List Triplet) (j : ℕ) → tripletAt (numbers (t ∷ ts)) (suc j) ≡ tripletAt (numbers ts) j
 unfolding numbers
 at-next t ts j =
     let p : 3 * suc j ≡ suc (suc (suc (3 * j))) = omega arith in

@@ -1,14 +1,15 @@
 -- What a step adds to a relation, by the entry at the pattern of x, y and z in it.
-use Prim.Native.Nat.{ℕ, zero, suc, _<_}
-use mathlib.Core.Path.{_≡_, refl, sym, ap, _∙_, subst}
-use mathlib.Core.Bool.{Bool, true, false, false≢true}
-use mathlib.Core.Logic.{_⊎_, inl, inr, ⊎-elim}
+use Prim.Native.Nat.{ℕ}
+use mathlib.Core.Path.{_≡_, sym, _∙_}
+use mathlib.Core.Bool.{Bool, true, false}
+use mathlib.Core.Logic.{⊎-elim}
 use native.Mathlib.Omega.{arith}
 use Rattle.notation.specs.Triplets.{negation}
 use Rattle.relation.specs.Relation.{Rel, IsRelation, Within}
-use Rattle.steps.specs.Step.{Side, never, always, own-x, own-y, own-z, Values, literalAt, Adds, HoldsStep}
+use Rattle.steps.specs.Step.{Side, never, always, own-x, own-y, own-z, literalAt, Adds, HoldsStep}
 use Rattle.steps.specs.Table.{xNamed, yNamed, zNamed, pattern, patternOf, follows, contradictory, entry, NamesHold}
-use Rattle.steps.proofs.Sides.{either, Closed, held, held-closed}
+use Rattle.relation.proofs.LiteralLaws.{either}
+use Rattle.steps.proofs.Sides.{Closed, held, held-closed}
 use Rattle.steps.proofs.Patterns.{pattern-below}
 use Rattle.steps.proofs.Strongest.{follows-gives, gives-follows, follows-closed, follows-consistent, x-holds, y-holds, z-holds, all-held, named-fits, obeys-fits, fits-obeys, entry-contradicts, entry-names, entry-consistent}
 

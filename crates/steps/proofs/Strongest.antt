@@ -1,16 +1,17 @@
 -- What an entry of the step table names is all that a step adds, and nothing else.
-use Prim.Native.Nat.{ℕ, zero, suc, _+_, _*_, _/_, _%_, _≤_, _<_}
-use mathlib.Core.Path.{_≡_, refl, sym, ap, _∙_, subst⁻¹, subst}
+use Prim.Native.Nat.{ℕ}
+use mathlib.Core.Path.{_≡_, refl, sym, ap, _∙_}
 use mathlib.Core.Bool.{Bool, true, false, not, Bool·beq, _&&_, _||_, false≢true}
 use mathlib.Core.List.{List, [], _∷_}
-use mathlib.Core.Logic.{_⊎_, inl, inr, ⊎-elim}
+use mathlib.Core.Logic.{⊎-elim, _↔_}
 use native.Mathlib.Omega.{arith}
 use Rattle.notation.specs.Tokens.{choose}
-use Rattle.relation.specs.Relation.{Rel, IsRelation, Within}
-use Rattle.steps.specs.Step.{Side, never, always, own-x, own-y, own-z, Values, literalAt, truthAt, connected, Satisfies, Obeys, Adds, HoldsStep}
-use Rattle.steps.specs.Table.{xNames, yNames, zNames, xNamed, yNamed, zNamed, pattern, patternOf, fits, both, each, follows, contradictory, entry, NamesHold}
+use Rattle.relation.specs.Relation.{Rel, IsRelation}
+use Rattle.steps.specs.Step.{Side, never, always, own-x, own-y, own-z, Values, truthAt, connected, Satisfies, Obeys}
+use Rattle.steps.specs.Table.{xNames, yNames, zNames, xNamed, yNamed, zNamed, pattern, patternOf, fits, both, each, follows, contradictory, entry}
 use Rattle.steps.proofs.Entries.{and-left, and-right}
-use Rattle.steps.proofs.Sides.{either, beq-eq, eq-beq, not-self, other, truth-other, Closed, Consistent, held, alike, held-closed, held-consistent, alike-closed}
+use Rattle.relation.proofs.LiteralLaws.{either}
+use Rattle.steps.proofs.Sides.{beq-eq, eq-beq, not-self, other, truth-other, Closed, Consistent, held, alike, held-closed, held-consistent, alike-closed}
 use Rattle.steps.proofs.Patterns.{first, pattern-below, x-named, y-named, z-named, generated}
 
 and-both : (a b : Bool) → a ≡ true → b ≡ true → a && b ≡ true
@@ -110,6 +111,19 @@ pub all-held : (E A : Side → Side → Bool) → Closed E → Consistent E → 
 all-held E A e c a x y z =
     generated E e c A a (rw (x-named E e) at x) (rw (y-named E e) at y) (rw (z-named E e) at z)
 
+-- what fits the pattern of E has equal truth wherever E says equal
+fitting-alike : (E : Side → Side → Bool) → Closed E → Consistent E → (v : Values) → fits (pattern E) v ≡ true
+    → (s t : Side) → E s t ≡ true → truthAt v s ≡ truthAt v t
+fitting-alike E e c v f s t h =
+    let p : ℕ = pattern E in
+    let rest : alike v own-y (yNamed p) && alike v own-z (zNamed p) ≡ true = and-right (alike v own-x (xNamed p)) (alike v own-y (yNamed p) && alike v own-z (zNamed p)) f in
+    beq-eq (truthAt v s) (truthAt v t)
+    (all-held E (alike v) e c (alike-closed v)
+    (and-left (alike v own-x (xNamed p)) (alike v own-y (yNamed p) && alike v own-z (zNamed p)) f)
+    (and-left (alike v own-y (yNamed p)) (alike v own-z (zNamed p)) rest)
+    (and-right (alike v own-y (yNamed p)) (alike v own-z (zNamed p)) rest)
+    s t h)
+
 -- a truth value fits the pattern that names it so
 pub named-fits : (p : ℕ) (v : Values) → truthAt v own-x ≡ truthAt v (xNamed p) → truthAt v own-y ≡ truthAt v (yNamed p) → truthAt v own-z ≡ truthAt v (zNamed p)
     → fits p v ≡ true
@@ -134,14 +148,7 @@ module _ (S : Rel) (x y z : ℕ) (relation : IsRelation S) where
   -- and the other way round
   pub fits-obeys : S 0 1 ≡ false → (v : Values) → fits (patternOf S x y z) v ≡ true → Obeys S x y z v
   fits-obeys n v f s t e =
-      let p : ℕ = patternOf S x y z in
-      let rest : alike v own-y (yNamed p) && alike v own-z (zNamed p) ≡ true = and-right (alike v own-x (xNamed p)) (alike v own-y (yNamed p) && alike v own-z (zNamed p)) f in
-      beq-eq (truthAt v s) (truthAt v t)
-      (all-held (held S x y z) (alike v) (held-closed S x y z relation) (held-consistent S x y z relation n) (alike-closed v)
-      (and-left (alike v own-x (xNamed p)) (alike v own-y (yNamed p) && alike v own-z (zNamed p)) f)
-      (and-left (alike v own-y (yNamed p)) (alike v own-z (zNamed p)) rest)
-      (and-right (alike v own-y (yNamed p)) (alike v own-z (zNamed p)) rest)
-      s t e)
+      fitting-alike (held S x y z) (held-closed S x y z relation) (held-consistent S x y z relation n) v f s t e
 
 -- an entry is the contradiction exactly where no truth value satisfies both triplet and pattern
 pub entry-contradicts : (kind p : ℕ) → entry kind p ≡ contradictory → follows kind p never always ≡ true
@@ -166,3 +173,34 @@ pub entry-consistent : (kind p : ℕ) → (entry kind p ≡ contradictory → �
 entry-consistent kind p n =
     ⊎-elim (λ (e : follows kind p never always ≡ true). absurd (n (contradicts-entry kind p e))) (λ e. e)
     (either (follows kind p never always))
+
+-- 255 stands exactly where no truth value satisfies both triplet and pattern
+pub contradictory-where : (kind p : ℕ) → (entry kind p ≡ contradictory) ↔ ((v : Values) → Satisfies kind v → fits p v ≡ true → ⊥)
+contradictory-where kind p = (
+  λ e v a b. false≢true (follows-gives kind p never always (entry-contradicts kind p e) v a b),
+  λ n. contradicts-entry kind p (gives-follows kind p never always (λ v a b. absurd (n v a b))),
+)
+
+-- elsewhere the entry is the strongest consequence: it names every equality that holds in each truth value that
+-- satisfies both triplet and pattern, and no other
+pub strongest : (kind p : ℕ) → (entry kind p ≡ contradictory → ⊥) → (s t : Side)
+    → ((v : Values) → Satisfies kind v → fits p v ≡ true → truthAt v s ≡ truthAt v t)
+    ↔ ((v : Values) → fits (entry kind p) v ≡ true → truthAt v s ≡ truthAt v t)
+strongest kind p n s t = rw (entry-names kind p here) (every, no-other)
+  where
+    here : follows kind p never always ≡ false
+    here = entry-consistent kind p n
+
+    every : ((v : Values) → Satisfies kind v → fits p v ≡ true → truthAt v s ≡ truthAt v t)
+        → (v : Values) → fits (pattern (follows kind p)) v ≡ true → truthAt v s ≡ truthAt v t
+    every h v f =
+        fitting-alike (follows kind p) (follows-closed kind p) (follows-consistent kind p (entry-consistent kind p n)) v f s t (gives-follows kind p s t h)
+
+    no-other : ((v : Values) → fits (pattern (follows kind p)) v ≡ true → truthAt v s ≡ truthAt v t)
+        → (v : Values) → Satisfies kind v → fits p v ≡ true → truthAt v s ≡ truthAt v t
+    no-other h v a b =
+        h v
+        (named-fits (pattern (follows kind p)) v
+        (follows-gives kind p own-x (xNamed (pattern (follows kind p))) (x-holds (follows kind p) (follows-closed kind p)) v a b)
+        (follows-gives kind p own-y (yNamed (pattern (follows kind p))) (y-holds (follows kind p) (follows-closed kind p)) v a b)
+        (follows-gives kind p own-z (zNamed (pattern (follows kind p))) (z-holds (follows kind p) (follows-closed kind p)) v a b))

@@ -1,12 +1,12 @@
 -- The step table: what is named of x, y and z before a step, and what after it.
-use Prim.Native.Nat.{ℕ, zero, suc, _+_, _*_, _/_, _%_}
+use Prim.Native.Nat.{ℕ, suc, _+_, _*_, _/_, _%_}
 use mathlib.Core.Path.{_≡_}
 use mathlib.Core.Bool.{Bool, true, false, not, Bool·beq, _&&_, _||_}
 use mathlib.Core.List.{List, [], _∷_}
 use lib.ListN.{getD}
 use Rattle.notation.specs.Tokens.{choose}
 use Rattle.relation.specs.Relation.{Rel}
-use Rattle.steps.specs.Step.{Side, never, always, own-x, not-x, own-y, not-y, own-z, not-z, Values, literalAt, truthAt, connected}
+use Rattle.steps.specs.Step.{Side, never, always, own-x, not-x, own-y, not-y, own-z, Values, literalAt, truthAt, connected}
 
 -- what x, y and z can be named as, the last its own
 abbrev pub xNames : List Side
