@@ -1,5 +1,6 @@
 // Rest: steps on the triplets until none enlarges the relation.
 use crate::step::step;
+use crate::table::ENTRIES;
 use crate::table::table;
 use relation::classes::VARIABLES;
 use relation::ranking::size_of;
@@ -14,7 +15,7 @@ ghost use Rattle.steps.specs.Contracts.{Entries, inUse, Passed, Rested, 
 pub const FIRST: usize = 25;
 
 // A step on each triplet in turn. A contradictory relation holds all: it ends the pass.
-fn pass(of: &mut [u16; VARIABLES], table: &[u8; 210], triplets: &[u16], count: usize)
+fn pass(of: &mut [u16; VARIABLES], table: &[u8; ENTRIES], triplets: &[u16], count: usize)
     requires { ⌜ Entries (now table) ⌝ }
     requires { ⌜ Readable (now triplets) count ⌝ }
     requires { ⌜ Classes (inUse count) (now of) ⌝ }

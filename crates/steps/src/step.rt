@@ -1,4 +1,5 @@
 // One step on a triplet, in place: where it adds nothing, nothing is written.
+use crate::table::ENTRIES;
 use crate::table::entry_of;
 use relation::classes::VARIABLES;
 use relation::classes::lead;
@@ -136,7 +137,7 @@ fn hold(of: &mut [u16; VARIABLES], size: usize, pattern: usize, x: u16, y: u16, 
 // A step on a triplet x = (y implies z) or x = (y same as z).
 pub fn step(
     of: &mut [u16; VARIABLES],
-    table: &[u8; 210],
+    table: &[u8; ENTRIES],
     size: usize,
     kind: usize,
     x: u16,

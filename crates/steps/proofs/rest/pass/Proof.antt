@@ -4,6 +4,7 @@ use Prim.Native.Nat.{ℕ, _+_, _*_, _-_, _≤_}
 use native.Mathlib.Omega.{arith}
 use borrow.Author.Tests.{eq-eqb}
 use Rattle.relation.specs.Classes.{entry}
+use Rattle.steps.specs.Contracts.{inUse}
 use Rattle.steps.proofs.Resting.{Passing, usable-at, passing-start, passing-next, passing-done, passing-broken}
 use Rattle.steps.proofs.rest.pass.Statement.{statement}
 use Rattle.steps.proofs.rest.pass.Tie as tie
@@ -120,7 +121,7 @@ step-requires c κs =
     let loop· = c .before .before .before .before .before .before .before .loop in
     let args· = c .before .before .before .before .before .before .before .before .before .args in
     let loop-test· = c .before .before .before .before .before .before .loop-test in
-    (pre· .0, (loop· .inv .1 .classes, usable-at (args· .triplets .now) (args· .count) (loop· .j) (2 * (25 + loop· .j)) (pre· .1 .0) (loop-test· .taken) (omega arith)))
+    (pre· .0, (loop· .inv .1 .classes, usable-at (args· .triplets .now) (args· .count) (loop· .j) (2 * inUse (loop· .j)) (pre· .1 .0) (loop-test· .taken) (omega arith)))
 
 add-j : tie.Need-add-j Inv-loop μ-loop
 add-j c =
@@ -136,7 +137,7 @@ loop-again c =
     let loop· = c .before .before .before .before .before .before .before .before .loop in
     let step· = c .step in
     let loop-test· = c .before .before .before .before .before .before .before .loop-test in
-    (search needs, passing-next (args· .triplets .now) (args· .count) (loop· .j) (2 * (25 + loop· .j)) (args· .of .now) (loop· .of) (step· .last .0) (loop-test· .taken) (loop· .inv .1) (omega arith) (step· .ensures))
+    (search needs, passing-next (args· .triplets .now) (args· .count) (loop· .j) (2 * inUse (loop· .j)) (args· .of .now) (loop· .of) (step· .last .0) (loop-test· .taken) (loop· .inv .1) (omega arith) (step· .ensures))
 
 returns-2 : tie.Need-returns-2 Inv-loop μ-loop
 returns-2 c =
