@@ -9,6 +9,7 @@ use Rattle.notation.specs.Triplets.{Triplet}
 use Rattle.relation.proofs.RelationLaws.{least-unique}
 use Rattle.steps.specs.Rest.{NoStepEnlarges}
 use Rattle.saturation.specs.Saturation.{taking, Stable, Saturated, SaturationOf}
+use Rattle.saturation.specs.Contracts.{Ties, HoldsSplit}
 use Rattle.relation.specs.Relation.{Rel, IsRelation, Forced}
 use Rattle.relation.proofs.LiteralLaws.{split-eq}
 use Rattle.saturation.proofs.Taking.{above-taking, taking-above, taking-holds}
@@ -42,17 +43,8 @@ module _ (D : ℕ → Type 0) (ts : List Triplet) where
   pub deeper : (k : ℕ) (R : Rel) (l m : ℕ) → Saturated D ts k R l m → Saturated D ts (suc k) R l m
   deeper k R l m = weaker-forces (Stable D ts k) (Stable D ts (suc k)) R l m (lower k)
 
-  -- S holds what both sides of a split on f, saturated at depth k, share
-  abbrev pub HoldsSplit : ℕ → ℕ → Rel → Type 0
-  HoldsSplit k f S =
-      (l m : ℕ) → Saturated D ts k (taking S (2 * f)) l m → Saturated D ts k (taking S (2 * f + 1)) l m → S l m ≡ true
-
-  -- S ties the variable f to true or to false
-  abbrev pub Ties : Rel → ℕ → Type 0
-  Ties S f = (S (2 * f) 0 ≡ true) ⊎ (S (2 * f + 1) 0 ≡ true)
-
   -- a split on a tied variable adds nothing to what is stable
-  pub tied-splits : (k f : ℕ) (S : Rel) → IsRelation S → Stable D ts k S → Ties S f → HoldsSplit k f S
+  pub tied-splits : (k f : ℕ) (S : Rel) → IsRelation S → Stable D ts k S → Ties S f → HoldsSplit D ts k f S
   tied-splits k f S r h t l m p q =
       ⊎-elim
       (λ (e : S (2 * f) 0 ≡ true). p S r (above-taking S S (2 * f) (λ a b c. c) e) h)
@@ -73,7 +65,7 @@ module _ (D : ℕ → Type 0) (ts : List Triplet) where
 
   -- no step enlarges S, and it ties each variable or holds its split: then it is stable one deeper
   pub stable-when : (k : ℕ) (S : Rel) → IsRelation S → NoStepEnlarges ts S
-      → ((f : ℕ) → D f → Ties S f ⊎ HoldsSplit k f S) → Stable D ts (suc k) S
+      → ((f : ℕ) → D f → Ties S f ⊎ HoldsSplit D ts k f S) → Stable D ts (suc k) S
   stable-when k S r rest splits = up-to (suc k) (omega arith)
     where
       up-to : (j : ℕ) → j ≤ suc k → Stable D ts j S
@@ -83,7 +75,7 @@ module _ (D : ℕ → Type 0) (ts : List Triplet) where
         λ f l m d p q.
             ⊎-elim
             (λ (t : Ties S f). tied-splits j f S r (up-to j (omega arith)) t l m p q)
-            (λ (s : HoldsSplit k f S).
+            (λ (s : HoldsSplit D ts k f S).
             s l m (raised j k (taking S (2 * f)) l m (omega arith) p) (raised j k (taking S (2 * f + 1)) l m (omega arith) q))
             (splits f d),
       )

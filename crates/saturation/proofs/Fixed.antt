@@ -39,7 +39,7 @@ unfolding negation
 for-negation true = refl
 for-negation false = refl
 
-negation-even : (x : ℕ) → negation (2 * x) ≡ 2 * x + 1
+pub negation-even : (x : ℕ) → negation (2 * x) ≡ 2 * x + 1
 unfolding negation
 negation-even x = omega arith
 

@@ -1,6 +1,7 @@
 pub mod Taking
 pub mod Depth
 pub mod Splits
+pub mod Saturating
 pub mod Truth
 pub mod Fixed
 pub mod States

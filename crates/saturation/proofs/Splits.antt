@@ -9,14 +9,10 @@ use Rattle.notation.specs.Triplets.{Triplet, negation}
 use Rattle.relation.specs.Relation.{Rel, IsRelation, Within}
 use Rattle.relation.specs.Least.{Least}
 use Rattle.saturation.specs.Saturation.{taking, taken, Stable, Saturated, SaturationOf}
+use Rattle.saturation.specs.Contracts.{Growth, HoldsSplit}
 use Rattle.saturation.specs.Answer.{Refuted}
 use Rattle.saturation.proofs.Taking.{HoldsAll, above-taking, taking-above, taking-holds, above-taken, taken-above}
-use Rattle.saturation.proofs.Depth.{HoldsSplit, saturated-held, saturated-in-turn}
-
--- S is above R, and below every relation above R that has the property P
-pub record Growth (P : Rel → Type 0) (R S : Rel) : Type 0 where
-  pub above : Within R S
-  pub below : (A : Rel) → IsRelation A → Within R A → P A → Within S A
+use Rattle.saturation.proofs.Depth.{saturated-held, saturated-in-turn}
 
 pub growth-none : (P : Rel → Type 0) (R : Rel) → Growth P R R
 growth-none P R = record { above = λ l m e. e; below = λ A a w p. w }
@@ -37,7 +33,7 @@ module _ (D : ℕ → Type 0) (ts : List Triplet) where
   pub saturated-more : (k : ℕ) (R S : Rel) (l m : ℕ) → Within R S → Saturated D ts k R l m → Saturated D ts k S l m
   saturated-more k R S l m w s A a v h = s A a (λ c d e. v c d (w c d e)) h
 
-  taking-more : (R S : Rel) (l : ℕ) → Within R S → Within (taking R l) (taking S l)
+  pub taking-more : (R S : Rel) (l : ℕ) → Within R S → Within (taking R l) (taking S l)
   taking-more R S l w =
       above-taking R (taking S l) l (λ c d e. taking-above S (taking S l) l (λ a b h. h) c d (w c d e)) (taking-holds S (taking S l) l (λ a b h. h))
 

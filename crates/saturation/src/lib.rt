@@ -1,2 +1,2 @@
-// Saturation: for now its meaning and laws alone.
-pub fn nothing() {}
+// k-saturation: rest, and splits on flags, until neither adds anything.
+pub mod saturate;
