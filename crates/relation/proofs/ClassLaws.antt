@@ -1,7 +1,7 @@
 -- What an array of classes keeps is a relation, and each literal equals the one to which it leads.
 use Prim.Native.Nat.{ℕ, zero, suc, _+_, _*_, _/_, _%_, _≤_, _<_}
 use mathlib.Core.Path.{_≡_, refl, sym, _∙_, ap, ap₂, subst, fun-ext}
-use mathlib.Core.Bool.{Bool, true, false}
+use mathlib.Core.Bool.{true, false}
 use mathlib.Core.Logic.{_⊎_, inl, inr, ⊎-elim}
 use mathlib.Core.List.{List, [], _∷_}
 use native.Mathlib.Omega.{arith}
@@ -11,8 +11,7 @@ use lib.Seq.{getD-set-same, getD-set-other}
 use lib.Dec.{eqb, ltb}
 use borrow.Author.Tests.{eqb-true, eqb-false, eq-eqb, lt-ltb, ltb-true}
 use Rattle.notation.specs.Triplets.{negation}
-use Rattle.notation.specs.Tokens.{choose}
-use Rattle.relation.specs.Relation.{Rel, IsRelation, Within}
+use Rattle.relation.specs.Relation.{Rel, IsRelation}
 use Rattle.relation.specs.Classes.{variableCeiling, signed, entry, lead, relation, contradictory, Canonical, Classes}
 use Rattle.relation.specs.Contracts.{Lower, Alike, tied}
 use Rattle.relation.proofs.RelationLaws.{bool-eq}

@@ -1,11 +1,10 @@
 -- Passes over the triplets: between the start and every relation above it that no step enlarges, until no step does.
 use Prim.Native.Nat.{ℕ, zero, suc, _+_, _*_, _/_, _≤_, _<_}
-use mathlib.Core.Path.{_≡_, refl, sym, _∙_, ap, subst}
-use mathlib.Core.Bool.{Bool, true, false}
-use mathlib.Core.List.{List, [], _∷_, _++_}
+use mathlib.Core.Path.{_≡_, refl, sym, subst}
+use mathlib.Core.Bool.{true}
+use mathlib.Core.List.{List, [], _∷_}
 use mathlib.Core.Logic.{inl, inr, ⊎-elim}
 use native.Mathlib.Omega.{arith}
-use native.Mathlib.Numerals.{add-one}
 use lib.ListN.{length, length-append}
 use Rattle.notation.specs.Ceilings.{flagCeiling, connectiveCeiling}
 use Rattle.notation.specs.Triplets.{Triplet, tripletVariable}
