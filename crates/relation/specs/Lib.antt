@@ -1,1 +1,4 @@
 pub mod Relation
+pub mod Least
+pub mod Classes
+pub mod Contracts

@@ -1,0 +1,2 @@
+// k-saturation: rest, and splits on flags, until neither adds anything.
+pub mod saturate;

@@ -1,0 +1,12 @@
+pub mod Entries
+pub mod Rule
+pub mod Sides
+pub mod Patterns
+pub mod Strongest
+pub mod StepLaws
+pub mod RestLaws
+pub mod Unique
+pub mod Placing
+pub mod Stepping
+pub mod Resting
+pub mod Listing

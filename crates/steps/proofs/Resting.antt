@@ -1,0 +1,217 @@
+-- Passes over the triplets: between the start and every relation above it that no step enlarges, until no step does.
+use Prim.Native.Nat.{ℕ, zero, suc, _+_, _*_, _/_, _≤_, _<_}
+use mathlib.Core.Path.{_≡_, refl, sym, subst}
+use mathlib.Core.Bool.{true}
+use mathlib.Core.List.{List, [], _∷_}
+use mathlib.Core.Logic.{inl, inr, ⊎-elim}
+use native.Mathlib.Omega.{arith}
+use lib.ListN.{length, length-append}
+use Rattle.notation.specs.Ceilings.{flagCeiling, connectiveCeiling}
+use Rattle.notation.specs.Triplets.{Triplet, tripletVariable}
+use Rattle.notation.specs.Shape.{Names, kindAt, yAt, zAt, Shape}
+use Rattle.relation.specs.Relation.{Rel, IsRelation, Within}
+use Rattle.relation.specs.Least.{Least}
+use Rattle.relation.specs.Classes.{entry, relation, contradictory, kept, Classes, rank}
+use Rattle.relation.proofs.LiteralLaws.{split-eq}
+use Rattle.relation.proofs.RelationLaws.{within-refl, within-trans, least-below}
+use Rattle.relation.proofs.ClassLaws.{relation-all, is-relation}
+use Rattle.relation.proofs.RankLaws.{rank-settles}
+use Rattle.steps.specs.Step.{Side, literalAt, Adds, HoldsStep}
+use Rattle.steps.specs.Rest.{Each, HoldsStepOn, NoStepEnlarges}
+use Rattle.steps.specs.Contracts.{Usable, Readable, inUse, tripletsAt, Grown, Passed, Rested, Stepped}
+use Rattle.steps.proofs.RestLaws.{each-map, each-left, each-right, each-both, tripletAt}
+
+-- ---- the triplets by their numbers
+triplets-count : (numbers : List ℕ) (c : ℕ) → c ≡ 0 + length (tripletsAt numbers c)
+triplets-count numbers zero = refl
+triplets-count numbers (suc c) =
+    omega (arith, triplets-count numbers c, length-append (tripletsAt numbers c) (tripletAt numbers c ∷ []))
+
+-- what holds at each place of the numbers holds of each triplet, and the other way round
+pub at-triplets : (P : Triplet → ℕ → Type 0) (numbers : List ℕ) (c : ℕ)
+    → ((j : ℕ) → j < c → P (tripletAt numbers j) (2 * tripletVariable (j + 1))) → Each P 0 (tripletsAt numbers c)
+at-triplets P numbers zero h = tt
+at-triplets P numbers (suc c) h =
+    each-both P 0 c (tripletsAt numbers c) (tripletAt numbers c ∷ []) (triplets-count numbers c)
+    (at-triplets P numbers c (λ j i. h j (omega arith))) (h c (omega arith), tt)
+
+pub triplets-at : (P : Triplet → ℕ → Type 0) (numbers : List ℕ) (c : ℕ) → Each P 0 (tripletsAt numbers c)
+    → (j : ℕ) → j < c → P (tripletAt numbers j) (2 * tripletVariable (j + 1))
+triplets-at P numbers zero e j h = absurd (omega arith)
+triplets-at P numbers (suc c) e j h =
+    ⊎-elim
+    (λ (q : j ≡ c).
+    subst (λ (i : ℕ). P (tripletAt numbers i) (2 * tripletVariable (i + 1))) (sym q)
+    (each-right P 0 c (tripletsAt numbers c) (tripletAt numbers c ∷ []) (triplets-count numbers c) e .0))
+    (λ (q : j ≡ c → ⊥).
+    triplets-at P numbers c (each-left P 0 (tripletsAt numbers c) (tripletAt numbers c ∷ []) e) j (omega arith))
+    (split-eq j c)
+
+-- ---- steps and larger relations
+-- what a step adds to a relation it adds to each above it
+pub adds-more : (kind x y z : ℕ) (S A : Rel) → Within S A → (s t : Side) → Adds kind x y z S s t → Adds kind x y z A s t
+adds-more kind x y z S A w s t h v sat obeys =
+    h v sat (λ a b e. obeys a b (w (literalAt x y z a) (literalAt x y z b) e))
+
+-- a relation that a step does not enlarge holds what the step adds to any below it
+pub holds-below : (kind x y z : ℕ) (S A : Rel) → Within S A → HoldsStep kind x y z A A → HoldsStep kind x y z S A
+holds-below kind x y z S A w h s t d = h s t (adds-more kind x y z S A w s t d)
+
+-- two relations with the same equalities are enlarged by the same steps
+pub rest-same : (ts : List Triplet) (R S : Rel) → Within R S → Within S R → NoStepEnlarges ts R → NoStepEnlarges ts S
+rest-same ts R S w v h =
+    each-map (HoldsStepOn R R) (HoldsStepOn S S) 0 ts
+    (λ u x k s t d.
+    w (literalAt x (u .y) (u .z) s) (literalAt x (u .y) (u .z) t)
+    (k s t (adds-more (u .kind) x (u .y) (u .z) S R v s t d)))
+    h
+
+-- ---- which variables are in use
+-- an operand of one of the first c triplets is a variable in use
+pub names-inside : (c j l : ℕ) → j < c → Names flagCeiling j l → l / 2 < inUse c
+names-inside c j l h n = ⊎-elim (λ (p : l / 2 ≤ flagCeiling). omega arith) (λ p. omega arith) n
+
+-- what names one of n flags names one of more
+names-more : (n m c l : ℕ) → n ≤ m → Names n c l → Names m c l
+names-more n m c l h k =
+    ⊎-elim (λ (p : l / 2 ≤ n). inl (omega arith)) (λ p. inr p) k
+
+-- what reading wrote can be rested on
+pub readable-from : (n c : ℕ) (numbers : List ℕ) → n ≤ flagCeiling → c ≤ connectiveCeiling → 3 * c ≤ length numbers → Shape n c numbers → Readable numbers c
+readable-from n c numbers flags few long s =
+    record {
+      long = long;
+      few = few;
+      shape = record {
+        kinds = s .kinds;
+        ys = λ j h. names-more n flagCeiling j (yAt numbers j) flags (s .ys j h);
+        zs = λ j h. names-more n flagCeiling j (zAt numbers j) flags (s .zs j h);
+      };
+    }
+
+pub usable-at : (numbers : List ℕ) (c j x : ℕ) → Readable numbers c → j < c → x ≡ 2 * tripletVariable (j + 1) → Usable (inUse c) (kindAt numbers j) x (yAt numbers j) (zAt numbers j)
+usable-at numbers c j x r h e =
+    record {
+      kinds = r .shape .kinds j h;
+      of-x = omega arith;
+      of-y = names-inside c j (yAt numbers j) h (r .shape .ys j h);
+      of-z = names-inside c j (zAt numbers j) h (r .shape .zs j h);
+    }
+
+-- ---- growth
+pub grown-none : (ts : List Triplet) (R : Rel) → Grown ts R R
+grown-none ts R = record { above = within-refl R; below = λ A a w h. w }
+
+pub grown-then : (ts : List Triplet) (R S T : Rel) → Grown ts R S → Grown ts S T → Grown ts R T
+grown-then ts R S T g h =
+    record {
+      above = within-trans R S T (g .above) (h .above);
+      below = λ A a w q. h .below A a (g .below A a w q) q;
+    }
+
+-- where no step enlarges what has grown, it is the least
+pub grown-least : (ts : List Triplet) (R S : Rel) → IsRelation S → Grown ts R S → NoStepEnlarges ts S → Least (NoStepEnlarges ts) R S
+grown-least ts R S s g h =
+    record { relation = s; above = g .above; has = h; forced = λ l m e A a w q. g .below A a w q l m e }
+
+-- ---- a pass that has come to triplet j
+pub record Passing (numbers : List ℕ) (c j : ℕ) (xs ys : List ℕ) : Type 0 where
+  pub classes : Classes (inUse c) ys
+  pub grown : Grown (tripletsAt numbers c) (kept xs) (kept ys)
+  pub idle : Within (kept ys) (kept xs) → (i : ℕ) → i < j → HoldsStepOn (kept xs) (kept xs) (tripletAt numbers i) (2 * tripletVariable (i + 1))
+
+pub passing-start : (numbers : List ℕ) (c : ℕ) (xs : List ℕ) → Classes (inUse c) xs → Passing numbers c 0 xs xs
+passing-start numbers c xs k =
+    record { classes = k; grown = grown-none (tripletsAt numbers c) (kept xs); idle = λ w i h. absurd (omega arith) }
+
+pub passing-next : (numbers : List ℕ) (c j x : ℕ) (xs ys zs : List ℕ) → j < c → Passing numbers c j xs ys
+    → x ≡ 2 * tripletVariable (j + 1) → Stepped (inUse c) (tripletAt numbers j .kind) x (tripletAt numbers j .y) (tripletAt numbers j .z) ys zs
+    → Passing numbers c (j + 1) xs zs
+passing-next numbers c j x xs ys zs h p here s =
+    record {
+      classes = s .classes;
+      grown = grown-then ts (kept xs) (kept ys) (kept zs) (p .grown)
+          (record {
+            above = s .least .above;
+            below = λ A a w q.
+                least-below (HoldsStep (t .kind) x (t .y) (t .z) (kept ys)) (kept ys) (kept zs) A (s .least) a w
+                (holds-below (t .kind) x (t .y) (t .z) (kept ys) A w (at-x A A (triplets-at (HoldsStepOn A A) numbers c q j h)));
+          });
+      idle = λ w i g.
+          ⊎-elim
+          (λ (e : i ≡ j).
+          subst (λ (u : ℕ). HoldsStepOn (kept xs) (kept xs) (tripletAt numbers u) (2 * tripletVariable (u + 1))) (sym e) (own w))
+          (λ (e : i ≡ j → ⊥). p .idle (within-trans (kept ys) (kept zs) (kept xs) (s .least .above) w) i (omega arith))
+          (split-eq i j);
+    }
+  where
+    ts : List Triplet
+    ts = tripletsAt numbers c
+
+    t : Triplet
+    t = tripletAt numbers j
+
+    at-x : (A B : Rel) → HoldsStepOn A B (tripletAt numbers j) (2 * tripletVariable (j + 1)) → HoldsStep (t .kind) x (t .y) (t .z) A B
+    at-x A B g = subst (λ (u : ℕ). HoldsStep (t .kind) u (t .y) (t .z) A B) (sym here) g
+
+    own : Within (kept zs) (kept xs) → HoldsStepOn (kept xs) (kept xs) (tripletAt numbers j) (2 * tripletVariable (j + 1))
+    own w = subst (λ (u : ℕ). HoldsStep (t .kind) u (t .y) (t .z) (kept xs) (kept xs)) here (own-x w)
+      where
+        own-x : Within (kept zs) (kept xs) → HoldsStep (t .kind) x (t .y) (t .z) (kept xs) (kept xs)
+        own-x w a b d =
+            w (literalAt x (t .y) (t .z) a) (literalAt x (t .y) (t .z) b)
+            (s .least .has a b (adds-more (t .kind) x (t .y) (t .z) (kept xs) (kept ys) (p .grown .above) a b d))
+
+pub passing-done : (numbers : List ℕ) (c j : ℕ) (xs ys : List ℕ) → c ≤ j → Passing numbers c j xs ys → Passed numbers c xs ys
+passing-done numbers c j xs ys h p =
+    record {
+      classes = p .classes;
+      grown = p .grown;
+      idle = λ w. at-triplets (HoldsStepOn (kept xs) (kept xs)) numbers c (λ i g. p .idle w i (omega arith));
+    }
+
+-- a contradictory relation ends the pass
+pub passing-broken : (numbers : List ℕ) (c j : ℕ) (xs ys : List ℕ) → contradictory (entry ys) ≡ true → Passing numbers c j xs ys → Passed numbers c xs ys
+passing-broken numbers c j xs ys e p =
+    record {
+      classes = p .classes;
+      grown = p .grown;
+      idle = λ w. at-triplets (HoldsStepOn (kept xs) (kept xs)) numbers c
+          (λ i g s t d. w _ _ (relation-all (entry ys) e _ _));
+    }
+
+-- ---- passes that have come to ys, the last of which found the rank was and left the rank left
+pub record Settling (numbers : List ℕ) (c : ℕ) (xs ys : List ℕ) (left was : ℕ) : Type 0 where
+  pub classes : Classes (inUse c) ys
+  pub grown : Grown (tripletsAt numbers c) (kept xs) (kept ys)
+  pub ranks : left ≡ rank (inUse c) (entry ys)
+  pub quiet : was ≤ left → NoStepEnlarges (tripletsAt numbers c) (kept ys)
+
+pub settling-start : (numbers : List ℕ) (c : ℕ) (xs : List ℕ) (left : ℕ) → Classes (inUse c) xs → left ≡ rank (inUse c) (entry xs) → Settling numbers c xs xs left (left + 1)
+settling-start numbers c xs left k e =
+    record {
+      classes = k;
+      grown = grown-none (tripletsAt numbers c) (kept xs);
+      ranks = e;
+      quiet = λ h. absurd (omega arith);
+    }
+
+pub settling-next : (numbers : List ℕ) (c : ℕ) (xs ys zs : List ℕ) (left was next : ℕ) → Settling numbers c xs ys left was → Passed numbers c ys zs → next ≡ rank (inUse c) (entry zs) → Settling numbers c xs zs next left
+settling-next numbers c xs ys zs left was next s p e =
+    record {
+      classes = p .classes;
+      grown = grown-then (tripletsAt numbers c) (kept xs) (kept ys) (kept zs) (s .grown) (p .grown);
+      ranks = e;
+      quiet = λ h.
+          let back : Within (kept zs) (kept ys) =
+          rank-settles (inUse c) (entry ys) (entry zs) (s .classes .canonical) (p .classes .canonical) (p .grown .above)
+          (omega (arith, s .ranks, e)) in
+          rest-same (tripletsAt numbers c) (kept ys) (kept zs) (p .grown .above) back (p .idle back);
+    }
+
+pub settling-done : (numbers : List ℕ) (c : ℕ) (xs ys : List ℕ) (left was : ℕ) → was ≤ left → Settling numbers c xs ys left was → Rested numbers c xs ys
+settling-done numbers c xs ys left was h s =
+    record {
+      classes = s .classes;
+      least = grown-least (tripletsAt numbers c) (kept xs) (kept ys) (is-relation (entry ys)) (s .grown) (s .quiet h);
+    }

@@ -1,0 +1,68 @@
+-- What a step, a pass over the triplets and rest do, said of the relation that an array keeps.
+use Prim.Native.Nat.{ℕ, zero, suc, _+_, _*_, _≤_, _<_, _/_}
+use mathlib.Core.Path.{_≡_}
+use mathlib.Core.List.{List, [], _∷_, _++_}
+use lib.ListN.{length, getD}
+use Rattle.notation.specs.Triplets.{Triplet}
+use Rattle.notation.specs.Shape.{kindAt, yAt, zAt, Shape}
+use Rattle.notation.specs.Ceilings.{flagCeiling, connectiveCeiling}
+use Rattle.relation.specs.Relation.{Rel, IsRelation, Within}
+use Rattle.relation.specs.Least.{Least}
+use Rattle.relation.specs.Classes.{Classes, kept}
+use Rattle.steps.specs.Step.{HoldsStep}
+use Rattle.steps.specs.Table.{entry, NamesHold}
+use Rattle.steps.specs.Rest.{NoStepEnlarges, RestOf}
+
+-- the list is the step table: 105 entries for kind 0, then 105 for kind 1
+pub record Entries (es : List ℕ) : Type 0 where
+  pub long : length es ≡ 210
+  pub right : (kind p : ℕ) → kind ≤ 1 → p < 105 → getD es (105 * kind + p) 0 ≡ entry kind p
+
+-- a triplet of one of the two kinds over variables below n
+pub record Usable (n kind x y z : ℕ) : Type 0 where
+  pub kinds : kind ≤ 1
+  pub of-x : x / 2 < n
+  pub of-y : y / 2 < n
+  pub of-z : z / 2 < n
+
+-- ys keeps the least relation above that of xs which holds what the pattern e names of x, y and z
+pub record Named (n e x y z : ℕ) (xs ys : List ℕ) : Type 0 where
+  pub classes : Classes n ys
+  pub least : Least (NamesHold e x y z) (kept xs) (kept ys)
+
+-- ys keeps the least relation above that of xs which holds all that a step on (x, y, z) adds to it
+pub record Stepped (n kind x y z : ℕ) (xs ys : List ℕ) : Type 0 where
+  pub classes : Classes n ys
+  pub least : Least (HoldsStep kind x y z (kept xs)) (kept xs) (kept ys)
+
+-- the first c triplets that the numbers are
+abbrev pub tripletsAt : List ℕ → ℕ → List Triplet
+tripletsAt numbers zero = []
+tripletsAt numbers (suc c) =
+    tripletsAt numbers c ++ (record { kind = kindAt numbers c; y = yAt numbers c; z = zAt numbers c } ∷ [])
+
+-- the number of variables in use with c triplets
+abbrev pub inUse : ℕ → ℕ
+inUse c = 1 + flagCeiling + c
+
+-- the numbers begin with c triplets whose operands are known before them
+pub record Readable (numbers : List ℕ) (c : ℕ) : Type 0 where
+  pub long : 3 * c ≤ length numbers
+  pub few : c ≤ connectiveCeiling
+  pub shape : Shape flagCeiling c numbers
+
+-- S is above R, and below every relation above R that no step enlarges
+pub record Grown (ts : List Triplet) (R S : Rel) : Type 0 where
+  pub above : Within R S
+  pub below : (A : Rel) → IsRelation A → Within R A → NoStepEnlarges ts A → Within S A
+
+-- a step on each of the first c triplets in turn: where that enlarges nothing, no step does
+pub record Passed (numbers : List ℕ) (c : ℕ) (xs ys : List ℕ) : Type 0 where
+  pub classes : Classes (inUse c) ys
+  pub grown : Grown (tripletsAt numbers c) (kept xs) (kept ys)
+  pub idle : Within (kept ys) (kept xs) → NoStepEnlarges (tripletsAt numbers c) (kept xs)
+
+-- ys keeps the least relation above that of xs which no step on one of the first c triplets enlarges
+pub record Rested (numbers : List ℕ) (c : ℕ) (xs ys : List ℕ) : Type 0 where
+  pub classes : Classes (inUse c) ys
+  pub least : RestOf (tripletsAt numbers c) (kept xs) (kept ys)

@@ -1,0 +1,5 @@
+pub mod Step
+pub mod Table
+pub mod Rest
+pub mod Leading
+pub mod Contracts

@@ -1,0 +1,63 @@
+-- What triplets compute is what their operands make of them, where the operands are known before them.
+use Prim.Native.Nat.{ℕ, zero, suc, _+_, _*_, _-_, _/_, _%_, _≤_, _<_}
+use mathlib.Core.Path.{_≡_, refl, sym, ap, ap₂, _∙_}
+use mathlib.Core.Bool.{Bool, true, false, not}
+use mathlib.Core.List.{List}
+use mathlib.Core.Logic.{_⊎_, inl, inr, ⊎-elim}
+use native.Mathlib.Omega.{arith}
+use lib.Dec.{eqb}
+use borrow.Author.Tests.{eq-eqb, ne-eqb}
+use Rattle.notation.specs.Ceilings.{flagCeiling}
+use Rattle.notation.specs.Tokens.{choose}
+use Rattle.notation.specs.Triplets.{tripletVariable}
+use Rattle.notation.specs.Shape.{Names, Shape, kindAt, yAt, zAt}
+use Rattle.truth.specs.Value.{bit}
+use Rattle.truth.specs.Computed.{literalValue, gate, computed, Valued}
+use Rattle.truth.proofs.Literals.{literal-agrees}
+
+module _ (n s : ℕ) (xs : List ℕ) where
+  -- a variable that is no triplet keeps its value
+  pub flag-kept : (c v : ℕ) → v ≤ flagCeiling → computed n s xs c v ≡ computed n s xs 0 v
+  unfolding computed
+  flag-kept zero v h = refl
+  flag-kept (suc c) v h = rw (ne-eqb v (tripletVariable (suc c)) (λ e. omega arith)) (flag-kept c v h)
+
+  -- a triplet keeps the value that it was given
+  pub triplet-kept : (d j v : ℕ) → v ≤ tripletVariable j → computed n s xs (j + d) v ≡ computed n s xs j v
+  unfolding computed
+  triplet-kept zero j v h = let e : j + 0 ≡ j = omega arith in rw e
+  triplet-kept (suc d) j v h =
+      let e : j + suc d ≡ suc (j + d) = omega arith in
+      rw (e, ne-eqb v (tripletVariable (suc (j + d))) (λ p. omega arith)) (triplet-kept d j v h)
+
+  true-at-start : computed n s xs 0 0 ≡ true
+  unfolding computed
+  true-at-start = refl
+
+  flag-at-start : (i : ℕ) → 0 < i → computed n s xs 0 i ≡ bit s (n - i)
+  unfolding computed
+  flag-at-start i h = rw (ne-eqb i 0 (λ e. omega arith))
+
+  triplet-made : (j : ℕ) → computed n s xs (suc j) (tripletVariable (suc j)) ≡ gate (kindAt xs j) (literalValue (computed n s xs j) (yAt xs j)) (literalValue (computed n s xs j) (zAt xs j))
+  unfolding computed
+  triplet-made j = rw (eq-eqb (tripletVariable (suc j)) (tripletVariable (suc j)) refl)
+
+  module _ (small : n ≤ flagCeiling) where
+    -- what is named before triplet j keeps its value
+    pub named-kept : (c j l : ℕ) → j ≤ c → Names n j l → literalValue (computed n s xs c) l ≡ literalValue (computed n s xs j) l
+    named-kept c j l h m =
+        let e : c ≡ j + (c - j) = omega arith in
+        rw e
+        (literal-agrees (computed n s xs (j + (c - j))) (computed n s xs j) l
+        (triplet-kept (c - j) j (l / 2) (⊎-elim (λ (p : l / 2 ≤ n). omega arith) (λ (p : (tripletVariable 0 < l / 2) × (l / 2 ≤ tripletVariable j)). omega arith) m)))
+
+    triplet-holds : (c j : ℕ) → Shape n c xs → j < c
+        → computed n s xs c (tripletVariable (suc j)) ≡ gate (kindAt xs j) (literalValue (computed n s xs c) (yAt xs j)) (literalValue (computed n s xs c) (zAt xs j))
+    triplet-holds c j shape h =
+        let e : c ≡ suc j + (c - suc j) = omega arith in
+        let made : computed n s xs c (tripletVariable (suc j)) ≡ computed n s xs (suc j) (tripletVariable (suc j)) = ap (λ k. computed n s xs k (tripletVariable (suc j))) e ∙ triplet-kept (c - suc j) (suc j) (tripletVariable (suc j)) (omega arith) in
+        rw (made, triplet-made j, named-kept c j (yAt xs j) (omega arith) (shape .ys j h), named-kept c j (zAt xs j) (omega arith) (shape .zs j h))
+
+    -- what is computed gives every variable its value
+    pub valued : (c : ℕ) → Shape n c xs → Valued n s c xs (computed n s xs c)
+    valued c shape = record { top = flag-kept c 0 (omega arith) ∙ true-at-start; flags = λ i p q. flag-kept c i (omega arith) ∙ flag-at-start i p; gates = λ j h. triplet-holds c j shape h }

@@ -1,0 +1,2 @@
+// What a guard means.
+pub fn nothing() {}
