@@ -138,6 +138,11 @@ module _ (f : ℕ → ℕ) (top : f 0 ≡ 0) (x y z : ℕ) where
   unfolding pattern
   pattern-leads p h = h .names ∙ sym (ap₂ _+_ (ap₂ (λ (i j : ℕ). 35 * i + 7 * j) x-at y-at) z-at)
 
+-- where no two of true, x, y and z lead to one variable, each has its own name
+pub own-names : (a b c : ℕ) → (a / 2 ≡ 0 → ⊥) → (b / 2 ≡ 0 → ⊥) → (c / 2 ≡ 0 → ⊥) → (b / 2 ≡ a / 2 → ⊥) → (c / 2 ≡ a / 2 → ⊥) → (c / 2 ≡ b / 2 → ⊥) → Patterned a b c 104
+own-names a b c p q r s t u =
+    record { names = sym (ap₂ _+_ (ap₂ (λ (i j : ℕ). 35 * i + 7 * j) (x-own a p) (y-own a b q s)) (z-own a b c r t u)); below = omega arith }
+
 -- the names of x and of y are the first of those of z
 pub x-among : (k : ℕ) → k ≤ 2 → getD zNames k own-z ≡ getD xNames k own-x
 x-among zero h = refl

@@ -8,6 +8,7 @@ use lib.Dec.{eqb}
 use lib.ListN.{length, getD}
 use borrow.Author.Tests.{eqb-true}
 use Rattle.steps.specs.Table.{entry}
+use Rattle.steps.specs.Contracts.{Entries}
 use Rattle.steps.proofs.Entries.{passes, at}
 
 -- the number at place k is the entry of its kind and pattern
@@ -20,3 +21,7 @@ table es right-everywhere long kind p k h =
     eqb-true (getD es (105 * kind + p) 0) (entry ((105 * kind + p) / 105) ((105 * kind + p) % 105))
     (at right es right-everywhere (105 * kind + p) (omega arith))
     ∙ ap₂ entry (omega arith) (omega arith)
+
+-- such a list is the table that a step is lent
+pub entries : (es : List ℕ) → passes right 0 es ≡ true → length es ≡ 210 → Entries es
+entries es right-everywhere long = record { long = long; right = table es right-everywhere long }

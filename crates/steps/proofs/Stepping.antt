@@ -1,5 +1,5 @@
 -- A step by its entry: nothing where the entry is the pattern itself, the contradiction, or the three equalities that it names.
-use Prim.Native.Nat.{ℕ, _+_, _*_, _/_, _%_, _≤_, _<_}
+use Prim.Native.Nat.{ℕ, zero, suc, _+_, _*_, _/_, _%_, _≤_, _<_}
 use mathlib.Core.Path.{_≡_, refl, sym, _∙_, ap, subst, subst₃}
 use mathlib.Core.Bool.{Bool, true, false}
 use mathlib.Core.List.{List}
@@ -13,7 +13,7 @@ use Rattle.relation.proofs.LiteralLaws.{either, negation-half}
 use Rattle.relation.proofs.RelationLaws.{least-none, least-then, least-same}
 use Rattle.relation.proofs.ClassLaws.{relation-all, is-relation, true-leads}
 use Rattle.steps.specs.Step.{Side, never, always, own-x, not-x, own-y, not-y, own-z, not-z, literalAt, HoldsStep}
-use Rattle.steps.specs.Table.{xNamed, yNamed, zNamed, patternOf, follows, contradictory, entry, NamesHold}
+use Rattle.steps.specs.Table.{xNamed, yNamed, zNamed, pattern, patternOf, follows, contradictory, entry, NamesHold}
 use Rattle.steps.specs.Leading.{Patterned}
 use Rattle.steps.specs.Contracts.{Named, Stepped}
 use Rattle.steps.proofs.Patterns.{pattern-below}
@@ -26,6 +26,13 @@ pub entry-below : (kind p : ℕ) → (entry kind p ≡ contradictory → ⊥) �
 entry-below kind p d =
     subst (λ (e : ℕ). e < 105) (sym (entry-names kind p (entry-consistent kind p d)))
     (pattern-below (follows kind p) (follows-closed kind p))
+
+-- where nothing is known, nothing follows
+pub entry-own : (kind : ℕ) → kind ≤ 1 → entry kind 104 ≡ 104
+unfolding entry follows pattern
+entry-own zero h = refl
+entry-own (suc zero) h = refl
+entry-own (suc (suc kind)) h = absurd (omega arith)
 
 -- each side is a literal of a variable in use
 pub literal-inside : (n x y z : ℕ) → x / 2 < n → y / 2 < n → z / 2 < n → (s : Side) → literalAt x y z s / 2 < n

@@ -1,7 +1,8 @@
 -- What a step, a pass over the triplets and rest do, said of the relation that an array keeps.
 use Prim.Native.Nat.{ℕ, zero, suc, _+_, _*_, _≤_, _<_, _/_}
+use mathlib.Core.Path.{_≡_}
 use mathlib.Core.List.{List, [], _∷_, _++_}
-use lib.ListN.{length}
+use lib.ListN.{length, getD}
 use Rattle.notation.specs.Triplets.{Triplet}
 use Rattle.notation.specs.Shape.{kindAt, yAt, zAt, Shape}
 use Rattle.notation.specs.Ceilings.{flagCeiling, connectiveCeiling}
@@ -9,8 +10,13 @@ use Rattle.relation.specs.Relation.{Rel, IsRelation, Within}
 use Rattle.relation.specs.Least.{Least}
 use Rattle.relation.specs.Classes.{Classes, kept}
 use Rattle.steps.specs.Step.{HoldsStep}
-use Rattle.steps.specs.Table.{NamesHold}
-use Rattle.steps.specs.Rest.{NoStepEnlarges}
+use Rattle.steps.specs.Table.{entry, NamesHold}
+use Rattle.steps.specs.Rest.{NoStepEnlarges, RestOf}
+
+-- the list is the step table: 105 entries for kind 0, then 105 for kind 1
+pub record Entries (es : List ℕ) : Type 0 where
+  pub long : length es ≡ 210
+  pub right : (kind p : ℕ) → kind ≤ 1 → p < 105 → getD es (105 * kind + p) 0 ≡ entry kind p
 
 -- a triplet of one of the two kinds over variables below n
 pub record Usable (n kind x y z : ℕ) : Type 0 where
@@ -59,4 +65,4 @@ pub record Passed (numbers : List ℕ) (c : ℕ) (xs ys : List ℕ) : Type 0 whe
 -- ys keeps the least relation above that of xs which no step on one of the first c triplets enlarges
 pub record Rested (numbers : List ℕ) (c : ℕ) (xs ys : List ℕ) : Type 0 where
   pub classes : Classes (inUse c) ys
-  pub least : Least (NoStepEnlarges (tripletsAt numbers c)) (kept xs) (kept ys)
+  pub least : RestOf (tripletsAt numbers c) (kept xs) (kept ys)

@@ -1,6 +1,7 @@
 // The step table: what a step on a triplet makes of what is known of x, y and z.
 pub mod rest;
 pub mod step;
+pub mod table;
 
 ghost use mathlib.Core.Path.{_≡_};
 ghost use Prim.Native.Nat.{_≤_, _<_};

@@ -1,5 +1,7 @@
 // Rest: steps on the triplets until none enlarges the relation.
 use crate::step::step;
+use crate::table::ENTRIES;
+use crate::table::table;
 use relation::classes::VARIABLES;
 use relation::ranking::size_of;
 ghost use Prim.Native.Nat.{ℕ, _+_, _*_, _≤_, _<_};
@@ -7,13 +9,14 @@ ghost use lib.ListN.{length};
 ghost use Rattle.notation.specs.Ceilings.{flagCeiling, connectiveCeiling};
 ghost use Rattle.notation.specs.Shape.{Shape};
 ghost use Rattle.relation.specs.Classes.{Classes};
-ghost use Rattle.steps.specs.Contracts.{inUse, Passed, Rested, Readable};
+ghost use Rattle.steps.specs.Contracts.{Entries, inUse, Passed, Rested, Readable};
 
 // The variable of the first triplet.
 pub const FIRST: usize = 25;
 
 // A step on each triplet in turn. A contradictory relation holds all: it ends the pass.
-fn pass(of: &mut [u16; VARIABLES], triplets: &[u16], count: usize)
+fn pass(of: &mut [u16; VARIABLES], table: &[u8; ENTRIES], triplets: &[u16], count: usize)
+    requires { ⌜ Entries (now table) ⌝ }
     requires { ⌜ Readable (now triplets) count ⌝ }
     requires { ⌜ Classes (inUse count) (now of) ⌝ }
     ensures { λ _. ⌜ Passed (now (triplets .entry)) count (now (of .entry)) (now (of .exit)) ⌝ }
@@ -27,7 +30,7 @@ fn pass(of: &mut [u16; VARIABLES], triplets: &[u16], count: usize)
         let y = triplets[3 * j + 1];
         let z = triplets[3 * j + 2];
         let x = 2 * (FIRST + j) as u16;
-        step(of, FIRST + count, kind, x, y, z);
+        step(of, table, FIRST + count, kind, x, y, z);
         j += 1;
     }
 }
@@ -38,11 +41,12 @@ pub fn rest(of: &mut [u16; VARIABLES], triplets: &[u16], count: usize)
     requires { ⌜ Classes (inUse count) (now of) ⌝ }
     ensures { λ _. ⌜ Rested (now (triplets .entry)) count (now (of .entry)) (now (of .exit)) ⌝ }
 {
+    let entries = table();
     let mut left = size_of(&*of, FIRST + count);
     let mut was = left + 1;
     while left < was {
         was = left;
-        pass(of, triplets, count);
+        pass(of, &entries, triplets, count);
         left = size_of(&*of, FIRST + count);
     }
 }

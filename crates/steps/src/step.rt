@@ -1,17 +1,19 @@
 // One step on a triplet, in place: where it adds nothing, nothing is written.
-use crate::after;
+use crate::table::ENTRIES;
+use crate::table::entry_of;
 use relation::classes::VARIABLES;
 use relation::classes::lead;
 use relation::classes::turned;
 use relation::joining::join;
 ghost use mathlib.Core.Path.{_≡_};
+ghost use mathlib.Core.Bool.{true};
 ghost use Prim.Native.Nat.{ℕ, _+_, _*_, _/_, _%_, _<_, _≤_, _^_};
 ghost use lib.ListN.{getD};
 ghost use Rattle.relation.specs.Classes.{variableCeiling, Classes};
 ghost use Rattle.steps.specs.Step.{own-z, literalAt};
 ghost use Rattle.steps.specs.Table.{zNames};
 ghost use Rattle.steps.specs.Leading.{xPlace, yPlace, zPlace, Patterned};
-ghost use Rattle.steps.specs.Contracts.{Usable, Named, Stepped};
+ghost use Rattle.steps.specs.Contracts.{Entries, Usable, Named, Stepped};
 
 // The name of x: false, true or its own.
 fn x_place(a: u16) -> u16
@@ -52,6 +54,31 @@ fn z_place(a: u16, b: u16, c: u16) -> u16
         return 4 + (c + b) % 2;
     }
     6
+}
+
+// Whether no two of true, x, y and z lead to one variable: then nothing is known, and a step adds nothing.
+fn apart(a: u16, b: u16, c: u16) -> bool
+    ensures { λ r. ⌜ (r ≡ true → Patterned a b c 104) ⌝ }
+{
+    if a / 2 == 0 {
+        return false;
+    }
+    if b / 2 == 0 {
+        return false;
+    }
+    if c / 2 == 0 {
+        return false;
+    }
+    if b / 2 == a / 2 {
+        return false;
+    }
+    if c / 2 == a / 2 {
+        return false;
+    }
+    if c / 2 == b / 2 {
+        return false;
+    }
+    true
 }
 
 // The pattern of x, y and z, which lead to a, b and c.
@@ -108,7 +135,16 @@ fn hold(of: &mut [u16; VARIABLES], size: usize, pattern: usize, x: u16, y: u16, 
 }
 
 // A step on a triplet x = (y implies z) or x = (y same as z).
-pub fn step(of: &mut [u16; VARIABLES], size: usize, kind: usize, x: u16, y: u16, z: u16)
+pub fn step(
+    of: &mut [u16; VARIABLES],
+    table: &[u8; ENTRIES],
+    size: usize,
+    kind: usize,
+    x: u16,
+    y: u16,
+    z: u16,
+)
+    requires { ⌜ Entries (now table) ⌝ }
     requires { ⌜ Classes size (now of) ⌝ }
     requires { ⌜ Usable size kind x y z ⌝ }
     ensures { λ _. ⌜ Stepped size kind x y z (now (of .entry)) (now (of .exit)) ⌝ }
@@ -116,8 +152,11 @@ pub fn step(of: &mut [u16; VARIABLES], size: usize, kind: usize, x: u16, y: u16,
     let a = lead(&*of, x);
     let b = lead(&*of, y);
     let c = lead(&*of, z);
+    if apart(a, b, c) {
+        return;
+    }
     let before = pattern_of(a, b, c);
-    let next = after(kind, before) as usize;
+    let next = entry_of(table, kind, before) as usize;
     if next == before {
         return;
     }

@@ -4,21 +4,22 @@ use Prim.Native.Nat.{ℕ, _+_, _*_, _-_, _≤_}
 use native.Mathlib.Omega.{arith}
 use borrow.Author.Tests.{eq-eqb}
 use Rattle.relation.specs.Classes.{entry}
+use Rattle.steps.specs.Contracts.{inUse}
 use Rattle.steps.proofs.Resting.{Passing, usable-at, passing-start, passing-next, passing-done, passing-broken}
 use Rattle.steps.proofs.rest.pass.Statement.{statement}
 use Rattle.steps.proofs.rest.pass.Tie as tie
 
 abbrev Inv-loop : tie.InvT-loop
-Inv-loop of₀ triplets count j₀ of j = (j ≤ count) × Passing triplets count j of₀ of
+Inv-loop of₀ table triplets count j₀ of j = (j ≤ count) × Passing triplets count j of₀ of
 
 abbrev μ-loop : tie.MeasureT-loop
-μ-loop of₀ triplets count j₀ of j = count - j
+μ-loop of₀ table triplets count j₀ of j = count - j
 
 loop-holds : tie.Need-loop-holds Inv-loop μ-loop
 loop-holds c =
     let args· = c .before .args in
     let pre· = c .before .pre in
-    (search needs, passing-start (args· .triplets .now) (args· .count) (args· .of .now) (pre· .1))
+    (search needs, passing-start (args· .triplets .now) (args· .count) (args· .of .now) (pre· .1 .1))
 
 element-copy-out-if1 : tie.Need-element-copy-out-if1 Inv-loop μ-loop
 element-copy-out-if1 c =
@@ -35,97 +36,97 @@ returns c =
 mul-kind : tie.Need-mul-kind Inv-loop μ-loop
 mul-kind c =
     let pre· = c .before .before .before .before .before .pre in
-    omega (arith, pre· .0 .long, pre· .0 .few)
+    omega (arith, pre· .1 .0 .long, pre· .1 .0 .few)
 
 mul-kind-2 : tie.Need-mul-kind-2 Inv-loop μ-loop
 mul-kind-2 c =
     let pre· = c .before .before .before .before .before .pre in
-    omega (arith, pre· .0 .long, pre· .0 .few)
+    omega (arith, pre· .1 .0 .long, pre· .1 .0 .few)
 
 shared-slice-read-kind : tie.Need-shared-slice-read-kind Inv-loop μ-loop
 shared-slice-read-kind c =
     let pre· = c .before .before .before .before .before .before .pre in
-    omega (arith, pre· .0 .long, pre· .0 .few)
+    omega (arith, pre· .1 .0 .long, pre· .1 .0 .few)
 
 cast-kind : tie.Need-cast-kind Inv-loop μ-loop
 cast-kind c =
     let pre· = c .before .before .before .before .before .before .pre in
     let loop· = c .before .before .before .before .loop in
     let loop-test· = c .before .before .before .loop-test in
-    omega (arith, pre· .0 .shape .kinds (loop· .j) (loop-test· .taken))
+    omega (arith, pre· .1 .0 .shape .kinds (loop· .j) (loop-test· .taken))
 
 mul-y : tie.Need-mul-y Inv-loop μ-loop
 mul-y c =
     let pre· = c .before .before .before .before .before .before .pre in
-    omega (arith, pre· .0 .long, pre· .0 .few)
+    omega (arith, pre· .1 .0 .long, pre· .1 .0 .few)
 
 add-y : tie.Need-add-y Inv-loop μ-loop
 add-y c =
     let pre· = c .before .before .before .before .before .before .pre in
-    omega (arith, pre· .0 .long, pre· .0 .few)
+    omega (arith, pre· .1 .0 .long, pre· .1 .0 .few)
 
 mul-y-2 : tie.Need-mul-y-2 Inv-loop μ-loop
 mul-y-2 c =
     let pre· = c .before .before .before .before .before .before .pre in
-    omega (arith, pre· .0 .long, pre· .0 .few)
+    omega (arith, pre· .1 .0 .long, pre· .1 .0 .few)
 
 shared-slice-read-y : tie.Need-shared-slice-read-y Inv-loop μ-loop
 shared-slice-read-y c =
     let pre· = c .before .before .before .before .before .before .before .pre in
-    omega (arith, pre· .0 .long, pre· .0 .few)
+    omega (arith, pre· .1 .0 .long, pre· .1 .0 .few)
 
 mul-z : tie.Need-mul-z Inv-loop μ-loop
 mul-z c =
     let pre· = c .before .before .before .before .before .before .before .pre in
-    omega (arith, pre· .0 .long, pre· .0 .few)
+    omega (arith, pre· .1 .0 .long, pre· .1 .0 .few)
 
 add-z : tie.Need-add-z Inv-loop μ-loop
 add-z c =
     let pre· = c .before .before .before .before .before .before .before .pre in
-    omega (arith, pre· .0 .long, pre· .0 .few)
+    omega (arith, pre· .1 .0 .long, pre· .1 .0 .few)
 
 mul-z-2 : tie.Need-mul-z-2 Inv-loop μ-loop
 mul-z-2 c =
     let pre· = c .before .before .before .before .before .before .before .pre in
-    omega (arith, pre· .0 .long, pre· .0 .few)
+    omega (arith, pre· .1 .0 .long, pre· .1 .0 .few)
 
 shared-slice-read-z : tie.Need-shared-slice-read-z Inv-loop μ-loop
 shared-slice-read-z c =
     let pre· = c .before .before .before .before .before .before .before .before .pre in
-    omega (arith, pre· .0 .long, pre· .0 .few)
+    omega (arith, pre· .1 .0 .long, pre· .1 .0 .few)
 
 add-x : tie.Need-add-x Inv-loop μ-loop
 add-x c =
     let pre· = c .before .before .before .before .before .before .before .before .pre in
-    omega (arith, pre· .0 .long, pre· .0 .few)
+    omega (arith, pre· .1 .0 .long, pre· .1 .0 .few)
 
 cast-x : tie.Need-cast-x Inv-loop μ-loop
 cast-x c =
     let pre· = c .before .before .before .before .before .before .before .before .pre in
-    omega (arith, pre· .0 .long, pre· .0 .few)
+    omega (arith, pre· .1 .0 .long, pre· .1 .0 .few)
 
 mul-x : tie.Need-mul-x Inv-loop μ-loop
 mul-x c =
     let pre· = c .before .before .before .before .before .before .before .before .pre in
-    omega (arith, pre· .0 .long, pre· .0 .few)
+    omega (arith, pre· .1 .0 .long, pre· .1 .0 .few)
 
 add-step : tie.Need-add-step Inv-loop μ-loop
 add-step c =
     let pre· = c .before .before .before .before .before .before .before .before .before .pre in
-    omega (arith, pre· .0 .long, pre· .0 .few)
+    omega (arith, pre· .1 .0 .long, pre· .1 .0 .few)
 
 step-requires : tie.Need-step-requires Inv-loop μ-loop
 step-requires c κs =
+    let pre· = c .before .before .before .before .before .before .before .before .before .pre in
     let loop· = c .before .before .before .before .before .before .before .loop in
     let args· = c .before .before .before .before .before .before .before .before .before .args in
-    let pre· = c .before .before .before .before .before .before .before .before .before .pre in
     let loop-test· = c .before .before .before .before .before .before .loop-test in
-    (loop· .inv .1 .classes, usable-at (args· .triplets .now) (args· .count) (loop· .j) (2 * (25 + loop· .j)) (pre· .0) (loop-test· .taken) (omega arith))
+    (pre· .0, (loop· .inv .1 .classes, usable-at (args· .triplets .now) (args· .count) (loop· .j) (2 * inUse (loop· .j)) (pre· .1 .0) (loop-test· .taken) (omega arith)))
 
 add-j : tie.Need-add-j Inv-loop μ-loop
 add-j c =
     let pre· = c .before .before .before .before .before .before .before .before .before .before .pre in
-    omega (arith, pre· .0 .long, pre· .0 .few)
+    omega (arith, pre· .1 .0 .long, pre· .1 .0 .few)
 
 loop-less : tie.Need-loop-less Inv-loop μ-loop
 loop-less c = search needs
@@ -136,7 +137,7 @@ loop-again c =
     let loop· = c .before .before .before .before .before .before .before .before .loop in
     let step· = c .step in
     let loop-test· = c .before .before .before .before .before .before .before .loop-test in
-    (search needs, passing-next (args· .triplets .now) (args· .count) (loop· .j) (2 * (25 + loop· .j)) (args· .of .now) (loop· .of) (step· .last .0) (loop-test· .taken) (loop· .inv .1) (omega arith) (step· .ensures))
+    (search needs, passing-next (args· .triplets .now) (args· .count) (loop· .j) (2 * inUse (loop· .j)) (args· .of .now) (loop· .of) (step· .last .0) (loop-test· .taken) (loop· .inv .1) (omega arith) (step· .ensures))
 
 returns-2 : tie.Need-returns-2 Inv-loop μ-loop
 returns-2 c =

@@ -10,44 +10,48 @@ use Rattle.steps.proofs.rest.rest.Statement.{statement}
 use Rattle.steps.proofs.rest.rest.Tie as tie
 
 abbrev Inv-loop : tie.InvT-loop
-Inv-loop of₀ triplets count left₀ was₀ of left was = Settling triplets count of₀ of left was
+Inv-loop of₀ triplets count entries left₀ was₀ of left was = Settling triplets count of₀ of left was
 
 abbrev μ-loop : tie.MeasureT-loop
-μ-loop of₀ triplets count left₀ was₀ of left was = was
+μ-loop of₀ triplets count entries left₀ was₀ of left was = was
+
+table-requires : tie.Need-table-requires Inv-loop μ-loop
+table-requires c κs = search needs
 
 add-size-of : tie.Need-add-size-of Inv-loop μ-loop
 add-size-of c =
-    let pre· = c .before .before .pre in
+    let pre· = c .before .before .before .pre in
     omega (arith, pre· .0 .few)
 
 size-of-requires : tie.Need-size-of-requires Inv-loop μ-loop
 size-of-requires c κs =
-    let pre· = c .before .before .pre in
+    let pre· = c .before .before .before .pre in
     pre· .1
 
 add-was : tie.Need-add-was Inv-loop μ-loop
 add-was c =
     let size-of· = c .size-of in
-    let args· = c .before .before .before .args in
-    let pre· = c .before .before .before .pre in
+    let args· = c .before .before .before .before .args in
+    let pre· = c .before .before .before .before .pre in
     omega (arith, size-of· .ensures, rank-most (inUse (args· .count)) (entry (args· .of .now)), pre· .0 .few)
 
 loop-holds : tie.Need-loop-holds Inv-loop μ-loop
 loop-holds c =
-    let args· = c .before .before .before .args in
+    let args· = c .before .before .before .before .args in
     let size-of· = c .size-of in
-    let pre· = c .before .before .before .pre in
+    let pre· = c .before .before .before .before .pre in
     settling-start (args· .triplets .now) (args· .count) (args· .of .now) (size-of· .result) (pre· .1) (size-of· .ensures)
 
 pass-requires : tie.Need-pass-requires Inv-loop μ-loop
 pass-requires c κs =
-    let pre· = c .before .before .before .before .before .before .pre in
-    let loop· = c .before .before .loop in
-    (pre· .0, loop· .inv .classes)
+    let table· = c .before .before .before .before .before .before .table in
+    let pre· = c .before .before .before .before .before .before .before .before .pre in
+    let loop· = c .before .before .before .loop in
+    (table· .ensures, (pre· .0, loop· .inv .classes))
 
 add-size-of-2 : tie.Need-add-size-of-2 Inv-loop μ-loop
 add-size-of-2 c =
-    let pre· = c .before .before .before .before .before .before .before .before .pre in
+    let pre· = c .before .before .before .before .before .before .before .before .before .before .pre in
     omega (arith, pre· .0 .few)
 
 size-of-requires-2 : tie.Need-size-of-requires-2 Inv-loop μ-loop
@@ -60,15 +64,15 @@ loop-less c = search needs
 
 loop-again : tie.Need-loop-again Inv-loop μ-loop
 loop-again c =
-    let args· = c .before .before .before .before .before .before .before .before .before .args in
-    let loop· = c .before .before .before .before .before .loop in
+    let args· = c .before .before .before .before .before .before .before .before .before .before .before .args in
+    let loop· = c .before .before .before .before .before .before .loop in
     let pass· = c .before .before .pass in
     let size-of2· = c .size-of2 in
     settling-next (args· .triplets .now) (args· .count) (args· .of .now) (loop· .of) (pass· .last .0) (loop· .left) (loop· .was) (size-of2· .result) (loop· .inv) (pass· .ensures) (size-of2· .ensures)
 
 returns : tie.Need-returns Inv-loop μ-loop
 returns c =
-    let args· = c .before .before .before .before .before .args in
+    let args· = c .before .before .before .before .before .before .args in
     let loop· = c .before .loop in
     let loop-test· = c .loop-test in
     settling-done (args· .triplets .now) (args· .count) (args· .of .now) (loop· .of) (loop· .left) (loop· .was) (loop-test· .left) (loop· .inv)
@@ -79,6 +83,7 @@ rest-spec =
     (tie.spec
     Inv-loop
     μ-loop
+    table-requires
     add-size-of
     size-of-requires
     add-was
