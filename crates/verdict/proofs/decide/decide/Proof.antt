@@ -11,8 +11,9 @@ use Rattle.verdict.proofs.Trying.{Trying, fresh-classes, trying-start, 
 use Rattle.verdict.proofs.decide.decide.Statement.{statement}
 use Rattle.verdict.proofs.decide.decide.Tie as tie
 
-half-of : (l r m : ℕ) → r ≡ signed l 1 → l / 2 < m → r / 2 < m
-half-of l r m e h = omega (arith, ap (λ (x : ℕ). x / 2) e, signed-half l 1)
+-- the negation of a literal is of the same variable
+half-of : (l s r m : ℕ) → r ≡ signed l s → l / 2 < m → r / 2 < m
+half-of l s r m e h = omega (arith, ap (λ (x : ℕ). x / 2) e, signed-half l s)
 
 abbrev Inv-loop : tie.InvT-loop
 Inv-loop triplets count flags root depth of₀ state₀ done₀ of state done =
@@ -42,7 +43,7 @@ join-requires c κs =
     let fresh· = c .before .before .before .fresh in
     let pre· = c .before .before .before .before .before .pre in
     let turned· = c .turned in
-    (fresh-classes (inUse (args· .count)) (fresh· .result .of) (omega (arith, pre· .readable .few)) (fresh· .ensures), (half-of (args· .root) (turned· .result) (inUse (args· .count)) (turned· .ensures) (pre· .known), omega arith))
+    (fresh-classes (inUse (args· .count)) (fresh· .result .of) (omega (arith, pre· .readable .few)) (fresh· .ensures), (half-of (args· .root) _ (turned· .result) (inUse (args· .count)) (turned· .ensures) (pre· .known), omega arith))
 
 saturate-requires : tie.Need-saturate-requires Inv-loop μ-loop
 saturate-requires c κs =
