@@ -1,7 +1,7 @@
 -- What an array of classes keeps is a relation, and each literal equals the one to which it leads.
 use Prim.Native.Nat.{ℕ, zero, suc, _+_, _*_, _/_, _%_, _≤_, _<_}
 use mathlib.Core.Path.{_≡_, refl, sym, _∙_, ap, ap₂, subst, fun-ext}
-use mathlib.Core.Bool.{Bool, true, false}
+use mathlib.Core.Bool.{true, false}
 use mathlib.Core.Logic.{_⊎_, inl, inr, ⊎-elim}
 use mathlib.Core.List.{List, [], _∷_}
 use native.Mathlib.Omega.{arith}
@@ -11,9 +11,8 @@ use lib.Seq.{getD-set-same, getD-set-other}
 use lib.Dec.{eqb, ltb}
 use borrow.Author.Tests.{eqb-true, eqb-false, eq-eqb, lt-ltb, ltb-true}
 use Rattle.notation.specs.Triplets.{negation}
-use Rattle.notation.specs.Tokens.{choose}
-use Rattle.relation.specs.Relation.{Rel, IsRelation, Within}
-use Rattle.relation.specs.Classes.{signed, entry, lead, relation, contradictory, Canonical, Classes}
+use Rattle.relation.specs.Relation.{Rel, IsRelation}
+use Rattle.relation.specs.Classes.{variableCeiling, signed, entry, lead, relation, contradictory, Canonical, Classes}
 use Rattle.relation.specs.Contracts.{Lower, Alike, tied}
 use Rattle.relation.proofs.RelationLaws.{bool-eq}
 use Rattle.relation.proofs.LiteralLaws.{either, split-eq, lt-or-ge, never, sign-cases, signed-even, signed-odd, signed-half, signed-sign, literal-eq, negation-half, negation-sign, negation-differs}
@@ -310,3 +309,7 @@ stored-other xs v w u d = getD-set-other xs v u w (2 * u) d
 
 pub lowers : (n : ℕ) (xs : List ℕ) → Classes n xs → Lower xs
 lowers n xs k = record { long = k .long; lower = k .canonical .lower }
+
+pub classes-more : (n m : ℕ) (xs : List ℕ) → n ≤ m → m ≤ variableCeiling → Classes n xs → Classes m xs
+classes-more n m xs h fits k =
+    record { long = k .long; fits = fits; canonical = canonical-more n m (entry xs) h (k .canonical) }

@@ -1,21 +1,18 @@
 -- Joining two classes: the higher leader becomes the lower, its sign included, and the relation is the least that holds it.
-use Prim.Native.Nat.{ℕ, zero, suc, _+_, _*_, _/_, _%_, _≤_, _<_}
+use Prim.Native.Nat.{ℕ, _+_, _*_, _/_, _%_, _≤_, _<_}
 use mathlib.Core.Path.{_≡_, refl, sym, _∙_, ap, subst, fun-ext}
-use mathlib.Core.Bool.{Bool, true, false}
-use mathlib.Core.Logic.{_⊎_, ⊎-elim}
+use mathlib.Core.Bool.{true, false}
+use mathlib.Core.Logic.{⊎-elim}
 use mathlib.Core.List.{List}
 use native.Mathlib.Omega.{arith}
 use lib.ListN.{length, set, length-set}
 use lib.Seq.{getD-set-same}
-use lib.Dec.{eqb}
-use borrow.Author.Tests.{eqb-true, eqb-false, eq-eqb, ne-eqb}
-use Rattle.notation.specs.Triplets.{negation}
-use Rattle.notation.specs.Tokens.{choose}
+use borrow.Author.Tests.{eq-eqb, ne-eqb}
 use Rattle.relation.specs.Relation.{Rel, IsRelation, Within}
 use Rattle.relation.specs.Least.{Least, Holds}
 use Rattle.relation.specs.Classes.{variableCeiling, signed, entry, lead, relation, contradictory, moved, kept, Canonical, Classes}
 use Rattle.relation.specs.Contracts.{Leaders, Joined}
-use Rattle.relation.proofs.LiteralLaws.{either, split-eq, sign-add, signed-half, signed-sign, literal-eq, same-variable}
+use Rattle.relation.proofs.LiteralLaws.{split-eq, sign-add, signed-half, signed-sign, literal-eq, same-variable}
 use Rattle.relation.proofs.RelationLaws.{signed-both, least-none, least-across, least-turned}
 use Rattle.relation.proofs.ClassLaws.{lead-half, lead-sign, lead-is, relation-all, same-leads, leads-same, is-relation, true-leads, contradictory-at, leader-stands, lead-twice, lead-lower, leads-to, stored-other}
 

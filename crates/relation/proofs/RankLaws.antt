@@ -1,19 +1,19 @@
 -- The rank: a relation above another has no greater rank, and with no smaller one it is the same relation.
-use Prim.Native.Nat.{ℕ, zero, suc, _+_, _*_, _/_, _%_, _≤_, _<_, zero-le}
+use Prim.Native.Nat.{ℕ, zero, suc, _+_, _*_, _/_, _≤_, _<_}
 use mathlib.Core.Path.{_≡_, refl, sym, _∙_, ap, subst}
 use mathlib.Core.Bool.{Bool, true, false}
-use mathlib.Core.Logic.{_⊎_, inl, inr, ⊎-elim}
+use mathlib.Core.Logic.{⊎-elim}
 use native.Mathlib.Omega.{arith}
 use native.Mathlib.Numerals.{add-one}
 use lib.Dec.{eqb}
-use borrow.Author.Tests.{eqb-true, eqb-false, eq-eqb, ne-eqb}
+use borrow.Author.Tests.{eq-eqb, ne-eqb}
 use Rattle.notation.specs.Tokens.{choose}
-use Rattle.relation.specs.Relation.{Rel, IsRelation, Within}
+use Rattle.relation.specs.Relation.{Within}
 use Rattle.relation.specs.Least.{Least, Holds}
 use Rattle.relation.specs.Classes.{lead, relation, contradictory, Canonical, own, rank}
 use Rattle.relation.proofs.LiteralLaws.{either, split-eq, lt-or-ge, never}
 use Rattle.relation.proofs.RelationLaws.{across}
-use Rattle.relation.proofs.ClassLaws.{lead-half, lead-is, lead-variable, relation-all, same-leads, leads-same, is-relation, true-leads, leader-stands, lead-twice, leads-to}
+use Rattle.relation.proofs.ClassLaws.{lead-half, lead-is, lead-variable, relation-all, same-leads, leads-same, is-relation, leader-stands, leads-to}
 
 pub own-here : (n : ℕ) (f : ℕ → ℕ) → f n ≡ 2 * n → own (suc n) f ≡ suc (own n f)
 unfolding own

@@ -1,10 +1,9 @@
 -- Laws of relations, with no array in them: the least relation is unique, and signs go through every equality.
 use Prim.Native.Nat.{ℕ, _%_}
-use mathlib.Core.Path.{_≡_, refl, sym, _∙_}
+use mathlib.Core.Path.{_≡_, refl, sym}
 use mathlib.Core.Bool.{Bool, true, false}
 use mathlib.Core.Logic.{⊎-elim}
-use Rattle.notation.specs.Triplets.{negation}
-use Rattle.relation.specs.Relation.{Rel, IsRelation, Within, Forced}
+use Rattle.relation.specs.Relation.{Rel, IsRelation, Within}
 use Rattle.relation.specs.Least.{Least, Holds}
 use Rattle.relation.specs.Classes.{signed}
 use Rattle.relation.proofs.LiteralLaws.{sign-cases, signed-even, signed-odd}

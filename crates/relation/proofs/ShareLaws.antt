@@ -1,20 +1,20 @@
 -- What two relations share: each variable leads to the lowest variable that equals it in both.
-use Prim.Native.Nat.{ℕ, zero, suc, _+_, _*_, _/_, _%_, _≤_, _<_, max}
-use mathlib.Core.Path.{_≡_, refl, sym, _∙_, ap, ap₂, subst}
+use Prim.Native.Nat.{ℕ, _+_, _*_, _/_, _%_, _≤_, _<_, max}
+use mathlib.Core.Path.{_≡_, refl, sym, _∙_, ap, ap₂}
 use mathlib.Core.Bool.{Bool, true, false}
 use mathlib.Core.List.{List}
-use mathlib.Core.Logic.{_⊎_, inl, inr, ⊎-elim}
+use mathlib.Core.Logic.{⊎-elim}
 use native.Mathlib.Omega.{arith}
 use lib.ListN.{length, getD}
 use lib.Dec.{eqb}
 use borrow.Author.Tests.{eqb-true, eq-eqb}
 use Rattle.notation.specs.Tokens.{choose}
 use Rattle.relation.specs.Relation.{Rel}
-use Rattle.relation.specs.Classes.{variableCeiling, signed, entry, lead, relation, contradictory, kept, Canonical, Classes}
+use Rattle.relation.specs.Classes.{variableCeiling, signed, entry, lead, relation, contradictory, Canonical, Classes}
 use Rattle.relation.specs.Contracts.{Lower, SharedLeader, Shared, common}
 use Rattle.relation.proofs.LiteralLaws.{either, split-eq, lt-or-ge, never, sign-add, signed-half, signed-sign, literal-eq}
 use Rattle.relation.proofs.RelationLaws.{bool-eq}
-use Rattle.relation.proofs.ClassLaws.{entry-at, lead-half, lead-sign, lead-is, lead-variable, lead-signed, relation-all, same-leads, leads-same, contradictory-at}
+use Rattle.relation.proofs.ClassLaws.{entry-at, lead-half, lead-sign, lead-variable, lead-signed, same-leads, leads-same, contradictory-at}
 
 -- no literal of a variable below u leads, in f and in g, where the variable v does
 abbrev pub NoneBelow : (ℕ → ℕ) → (ℕ → ℕ) → ℕ → ℕ → Type 0

@@ -3,8 +3,8 @@ use crate::classes::VARIABLES;
 use crate::classes::lead;
 use crate::classes::turned;
 ghost use mathlib.Core.Path.{_≡_};
-ghost use Prim.Native.Nat.{ℕ, _+_, _*_, _/_, _<_, _≤_, _^_};
-ghost use Rattle.relation.specs.Classes.{Classes, moved, entry, lead as leadOf};
+ghost use Prim.Native.Nat.{_+_, _/_, _<_, _^_};
+ghost use Rattle.relation.specs.Classes.{Classes, moved, entry};
 ghost use Rattle.relation.specs.Contracts.{Joined, Leaders};
 
 // The literal w once hi has become lo.

@@ -2,7 +2,7 @@
 use crate::classes::VARIABLES;
 ghost use mathlib.Core.Path.{_≡_};
 ghost use mathlib.Core.Bool.{true, false};
-ghost use Prim.Native.Nat.{ℕ, _+_, _*_, _/_, _<_, _≤_, _^_};
+ghost use Prim.Native.Nat.{_<_};
 ghost use lib.Dec.{eqb};
 ghost use Rattle.notation.specs.Tokens.{choose};
 ghost use Rattle.relation.specs.Classes.{Classes, entry, kept, rank};

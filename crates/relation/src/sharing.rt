@@ -2,8 +2,8 @@
 use crate::classes::VARIABLES;
 use crate::classes::turned;
 ghost use mathlib.Core.Path.{_≡_};
-ghost use Prim.Native.Nat.{ℕ, _+_, _*_, _/_, _<_, _≤_, _^_, max};
-ghost use mathlib.Core.Bool.{true, false};
+ghost use Prim.Native.Nat.{_+_, _*_, _/_, _<_, _^_, max};
+ghost use mathlib.Core.Bool.{false};
 ghost use lib.Dec.{eqb};
 ghost use Rattle.notation.specs.Tokens.{choose};
 ghost use Rattle.relation.specs.Classes.{variableCeiling, Classes, entry, signed};

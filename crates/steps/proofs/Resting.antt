@@ -1,15 +1,14 @@
 -- Passes over the triplets: between the start and every relation above it that no step enlarges, until no step does.
 use Prim.Native.Nat.{ℕ, zero, suc, _+_, _*_, _/_, _≤_, _<_}
-use mathlib.Core.Path.{_≡_, refl, sym, _∙_, ap, subst}
-use mathlib.Core.Bool.{Bool, true, false}
-use mathlib.Core.List.{List, [], _∷_, _++_}
-use mathlib.Core.Logic.{⊎-elim}
+use mathlib.Core.Path.{_≡_, refl, sym, subst}
+use mathlib.Core.Bool.{true}
+use mathlib.Core.List.{List, [], _∷_}
+use mathlib.Core.Logic.{inl, inr, ⊎-elim}
 use native.Mathlib.Omega.{arith}
-use native.Mathlib.Numerals.{add-one}
 use lib.ListN.{length, length-append}
-use Rattle.notation.specs.Ceilings.{flagCeiling}
+use Rattle.notation.specs.Ceilings.{flagCeiling, connectiveCeiling}
 use Rattle.notation.specs.Triplets.{Triplet, tripletVariable}
-use Rattle.notation.specs.Shape.{Names, kindAt, yAt, zAt}
+use Rattle.notation.specs.Shape.{Names, kindAt, yAt, zAt, Shape}
 use Rattle.relation.specs.Relation.{Rel, IsRelation, Within}
 use Rattle.relation.specs.Least.{Least}
 use Rattle.relation.specs.Classes.{entry, relation, contradictory, kept, Classes, rank}
@@ -71,6 +70,24 @@ rest-same ts R S w v h =
 -- an operand of one of the first c triplets is a variable in use
 pub names-inside : (c j l : ℕ) → j < c → Names flagCeiling j l → l / 2 < inUse c
 names-inside c j l h n = ⊎-elim (λ (p : l / 2 ≤ flagCeiling). omega arith) (λ p. omega arith) n
+
+-- what names one of n flags names one of more
+names-more : (n m c l : ℕ) → n ≤ m → Names n c l → Names m c l
+names-more n m c l h k =
+    ⊎-elim (λ (p : l / 2 ≤ n). inl (omega arith)) (λ p. inr p) k
+
+-- what reading wrote can be rested on
+pub readable-from : (n c : ℕ) (numbers : List ℕ) → n ≤ flagCeiling → c ≤ connectiveCeiling → 3 * c ≤ length numbers → Shape n c numbers → Readable numbers c
+readable-from n c numbers flags few long s =
+    record {
+      long = long;
+      few = few;
+      shape = record {
+        kinds = s .kinds;
+        ys = λ j h. names-more n flagCeiling j (yAt numbers j) flags (s .ys j h);
+        zs = λ j h. names-more n flagCeiling j (zAt numbers j) flags (s .zs j h);
+      };
+    }
 
 pub usable-at : (numbers : List ℕ) (c j x : ℕ) → Readable numbers c → j < c → x ≡ 2 * tripletVariable (j + 1) → Usable (inUse c) (kindAt numbers j) x (yAt numbers j) (zAt numbers j)
 usable-at numbers c j x r h e =

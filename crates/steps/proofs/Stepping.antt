@@ -1,12 +1,12 @@
 -- A step by its entry: nothing where the entry is the pattern itself, the contradiction, or the three equalities that it names.
-use Prim.Native.Nat.{ℕ, zero, suc, _+_, _*_, _/_, _%_, _≤_, _<_}
-use mathlib.Core.Path.{_≡_, refl, sym, _∙_, ap, subst, subst₃}
-use mathlib.Core.Bool.{Bool, true, false}
+use Prim.Native.Nat.{ℕ, zero, suc, _/_, _≤_, _<_}
+use mathlib.Core.Path.{_≡_, refl, sym, subst, subst₃}
+use mathlib.Core.Bool.{true, false}
 use mathlib.Core.List.{List}
 use mathlib.Core.Logic.{⊎-elim}
 use native.Mathlib.Omega.{arith}
 use Rattle.relation.specs.Relation.{Rel, IsRelation, Within}
-use Rattle.relation.specs.Least.{Least, Holds}
+use Rattle.relation.specs.Least.{Holds}
 use Rattle.relation.specs.Classes.{lead, entry as at, contradictory as broken, kept, Classes}
 use Rattle.relation.specs.Contracts.{Joined}
 use Rattle.relation.proofs.LiteralLaws.{either, negation-half}

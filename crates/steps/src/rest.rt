@@ -4,10 +4,7 @@ use crate::table::ENTRIES;
 use crate::table::table;
 use relation::classes::VARIABLES;
 use relation::ranking::size_of;
-ghost use Prim.Native.Nat.{ℕ, _+_, _*_, _≤_, _<_};
-ghost use lib.ListN.{length};
-ghost use Rattle.notation.specs.Ceilings.{flagCeiling, connectiveCeiling};
-ghost use Rattle.notation.specs.Shape.{Shape};
+ghost use Prim.Native.Nat.{_+_, _*_, _<_};
 ghost use Rattle.relation.specs.Classes.{Classes};
 ghost use Rattle.steps.specs.Contracts.{Entries, inUse, Passed, Rested, Readable};
 

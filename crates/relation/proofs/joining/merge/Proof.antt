@@ -1,7 +1,7 @@
 -- `relation::joining::merge` meets its contract: the entries below v have moved, the others are still the old ones.
 use borrow.Author.Needs.{needs}
 use Prim.Native.Nat.{ℕ, _/_, _-_, _≤_, _<_}
-use mathlib.Core.Path.{_≡_, refl, sym, _∙_, ap}
+use mathlib.Core.Path.{_≡_, refl, _∙_, ap}
 use mathlib.Core.Logic.{⊎-elim}
 use native.Mathlib.Omega.{arith}
 use lib.ListN.{length}

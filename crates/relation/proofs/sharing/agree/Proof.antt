@@ -1,6 +1,6 @@
 -- `relation::sharing::agree` meets its contract: the first test decides whether the second is asked.
 use Prim.Native.Nat.{ℕ}
-use mathlib.Core.Path.{_≡_, _∙_, sym, ap}
+use mathlib.Core.Path.{_∙_, sym, ap}
 use lib.Dec.{eqb}
 use borrow.Author.Tests.{eq-eqb, ne-eqb}
 use Rattle.relation.specs.Classes.{signed}

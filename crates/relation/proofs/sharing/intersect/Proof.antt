@@ -1,6 +1,6 @@
 -- `relation::sharing::intersect` meets its contract: the variables from v on have their shared leader, the others are still the old ones.
 use borrow.Author.Needs.{needs}
-use Prim.Native.Nat.{ℕ, _*_, _/_, _-_, _≤_, _<_}
+use Prim.Native.Nat.{ℕ, _*_, _-_, _≤_, _<_}
 use mathlib.Core.Path.{_≡_, refl, sym, _∙_, subst}
 use mathlib.Core.Logic.{⊎-elim}
 use native.Mathlib.Omega.{arith}

@@ -1,6 +1,6 @@
 -- `steps::rest::pass` meets its contract: between the start and every relation above it at rest, a step at a time.
 use borrow.Author.Needs.{needs}
-use Prim.Native.Nat.{ℕ, _+_, _*_, _-_, _≤_}
+use Prim.Native.Nat.{_*_, _-_, _≤_}
 use native.Mathlib.Omega.{arith}
 use borrow.Author.Tests.{eq-eqb}
 use Rattle.relation.specs.Classes.{entry}

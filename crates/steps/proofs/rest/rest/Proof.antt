@@ -1,6 +1,5 @@
 -- `steps::rest::rest` meets its contract: a pass that does not make the rank fall has changed nothing.
 use borrow.Author.Needs.{needs}
-use Prim.Native.Nat.{ℕ}
 use native.Mathlib.Omega.{arith}
 use Rattle.relation.specs.Classes.{entry}
 use Rattle.relation.proofs.RankLaws.{rank-most}

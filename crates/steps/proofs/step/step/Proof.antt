@@ -1,6 +1,6 @@
 -- `steps::step::step` meets its contract: by the entry at the pattern of where x, y and z lead.
 use Prim.Native.Nat.{ℕ, _<_}
-use mathlib.Core.Path.{_≡_, sym, _∙_, subst}
+use mathlib.Core.Path.{sym, _∙_, subst}
 use Rattle.relation.specs.Classes.{lead, entry as at}
 use Rattle.steps.specs.Leading.{Patterned}
 use Rattle.steps.specs.Contracts.{Named}
