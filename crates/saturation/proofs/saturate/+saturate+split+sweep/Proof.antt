@@ -33,9 +33,6 @@ use Rattle.saturation.proofs.saturate.+saturate+split+sweep.Tie.{close}
 deep : (depth : ℕ) → (depth ≡ 0 → ⊥) → depth ≡ suc (depth - 1)
 deep depth h = let p : 0 < depth = pos-of-ne-zero h in omega arith
 
-less-deep : (depth t : ℕ) → (depth ≡ 0 → ⊥) → 3 * depth ≡ t → 3 * (depth - 1) + 2 < t
-less-deep depth t h e = let p : 0 < depth = pos-of-ne-zero h in omega arith
-
 abbrev μ-saturate : Measures 2 saturate-kinds.ps ℕ
 μ-saturate κs a = 3 * (a .1 .1 .1 .1 .0)
 
@@ -119,15 +116,14 @@ saturate-loop-holds t c =
 saturate-sub-sweep : (t : ℕ) → saturate-lts.Need-sub-sweep (saturate-in t) (saturate-at t) saturate.Post saturate-Inv-loop saturate-μ-loop
 saturate-sub-sweep t c =
     let if1· = c .before .before .before .before .before .if1 in
-    pos-of-ne-zero (if1· .left)
+    omega (arith, pos-of-ne-zero (if1· .left))
 
 saturate-sweep-requires : (t : ℕ) → saturate-lts.Need-sweep-requires (saturate-in t) (saturate-at t) saturate.Post saturate-Inv-loop saturate-μ-loop
 saturate-sweep-requires t c κs =
-    let args· = c .before .before .before .before .before .before .before .before .before .args in
     let if1· = c .before .before .before .before .before .if1 in
     let pre· = c .before .before .before .before .before .before .before .before .before .pre in
     let loop· = c .before .before .loop in
-    (less-deep (args· .depth) t (if1· .left) (pre· .0), (record { readable = pre· .1 .readable; flags = pre· .1 .flags; classes = loop· .inv .nearer .classes }, loop· .inv .nearer .rests))
+    (omega (arith, pos-of-ne-zero (if1· .left), pre· .0), (record { readable = pre· .1 .readable; flags = pre· .1 .flags; classes = loop· .inv .nearer .classes }, loop· .inv .nearer .rests))
 
 saturate-add-size-of-2 : (t : ℕ) → saturate-lts.Need-add-size-of-2 (saturate-in t) (saturate-at t) saturate.Post saturate-Inv-loop saturate-μ-loop
 saturate-add-size-of-2 t c =
@@ -267,7 +263,7 @@ split-returns-3 t c =
 
 abbrev sweep-Inv-loop : sweep-lts.InvT-loop
 sweep-Inv-loop of₀ triplets count flags below flag₀ of flag =
-    (0 < flag) × (flag ≤ flags + 1) × Sweeping triplets count flags below flag of₀ of
+    (0 < flag) × Sweeping triplets count flags below flag of₀ of
 
 abbrev sweep-μ-loop : sweep-lts.MeasureT-loop
 sweep-μ-loop of₀ triplets count flags below flag₀ of flag =
@@ -280,7 +276,7 @@ sweep-loop-holds : (t : ℕ) → sweep-lts.Need-loop-holds (sweep-in t) (sweep-a
 sweep-loop-holds t c =
     let args· = c .before .args in
     let pre· = c .before .pre in
-    (omega arith, omega arith, sweeping-start (args· .triplets .now) (args· .count) (args· .flags) (args· .below) (args· .of .now) (pre· .1 .0 .classes) (pre· .1 .1))
+    (omega arith, sweeping-start (args· .triplets .now) (args· .count) (args· .flags) (args· .below) (args· .of .now) (pre· .1 .0 .classes) (pre· .1 .1))
 
 sweep-split-requires : (t : ℕ) → sweep-lts.Need-split-requires (sweep-in t) (sweep-at t)
     sweep.Post
@@ -290,7 +286,7 @@ sweep-split-requires t c κs =
     let pre· = c .before .before .before .before .pre in
     let loop· = c .before .before .loop in
     let loop-test· = c .before .loop-test in
-    (omega (arith, pre· .0), (record { readable = pre· .1 .0 .readable; flags = pre· .1 .0 .flags; classes = loop· .inv .2 .nearer .classes }, (loop· .inv .2 .nearer .rests, (loop· .inv .0, loop-test· .taken))))
+    (omega (arith, pre· .0), (record { readable = pre· .1 .0 .readable; flags = pre· .1 .0 .flags; classes = loop· .inv .1 .nearer .classes }, (loop· .inv .1 .nearer .rests, (loop· .inv .0, loop-test· .taken))))
 
 sweep-add-flag : (t : ℕ) → sweep-lts.Need-add-flag (sweep-in t) (sweep-at t)
     sweep.Post
@@ -315,7 +311,7 @@ sweep-loop-again t c =
     let args· = c .before .before .before .before .before .args in
     let loop· = c .before .before .before .loop in
     let split· = c .split in
-    (omega arith, omega arith, sweeping-next (args· .triplets .now) (args· .count) (args· .flags) (args· .below) (loop· .flag) (args· .of .now) (loop· .of) (split· .last .0) (loop· .inv .2) (split· .ensures))
+    (omega arith, sweeping-next (args· .triplets .now) (args· .count) (args· .flags) (args· .below) (loop· .flag) (args· .of .now) (loop· .of) (split· .last .0) (loop· .inv .1) (split· .ensures))
 
 sweep-returns : (t : ℕ) → sweep-lts.Need-returns (sweep-in t) (sweep-at t)
     sweep.Post
@@ -325,7 +321,7 @@ sweep-returns t c =
     let args· = c .before .before .before .args in
     let loop· = c .before .loop in
     let loop-test· = c .loop-test in
-    sweeping-done (args· .triplets .now) (args· .count) (args· .flags) (args· .below) (loop· .flag) (args· .of .now) (loop· .of) (loop-test· .left) (loop· .inv .2)
+    sweeping-done (args· .triplets .now) (args· .count) (args· .flags) (args· .below) (loop· .flag) (args· .of .now) (loop· .of) (loop-test· .left) (loop· .inv .1)
 
 pub +saturate+split+sweep-spec : {M : Type 1} → statement M
 +saturate+split+sweep-spec = close μ-saturate μ-split μ-sweep (λ t. saturate-lts.spec (saturate-in t) (saturate-at t)

@@ -1,0 +1,2 @@
+// What check answers: covered, a gap or undecided.
+pub mod decide;
