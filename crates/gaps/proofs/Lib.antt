@@ -1,0 +1,4 @@
+pub mod Bits
+pub mod Ascending
+pub mod Written
+pub mod Words

@@ -1,0 +1,2 @@
+// The gaps of a guard: the states that make it false, in ascending order.
+pub mod writing;
