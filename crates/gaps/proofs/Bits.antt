@@ -4,7 +4,7 @@ use mathlib.Core.Path.{_≡_, refl, sym, ap, ap₂, _∙_}
 use mathlib.Core.Bool.{Bool, true, false, not, _||_}
 use mathlib.Core.Logic.{_⊎_, inl, inr, ⊎-elim}
 use native.Mathlib.Omega.{arith}
-use native.Mathlib.Nat.{pow-suc, zero-div}
+use native.Mathlib.Nat.{pow-suc, zero-div, eq-or-lt-of-le, le-of-suc-le-suc}
 use lib.Dec.{T, eqb}
 use lib.Pow.{shr-shr}
 use lib.Bits.{bitOr, bitXor, differ, or-shr, xor-shr, or-step, xor-step}
@@ -116,3 +116,34 @@ lowest-found (suc j) (suc k) w l h n =
 pub bit-none : (i : ℕ) → bit 0 i ≡ false
 unfolding bit
 bit-none i = rw zero-div
+
+-- a test of every number below k
+unfoldable pub every : (ℕ → Bool) → ℕ → Bool
+every p zero = true
+every p (suc k) = elim (p k) [ true ↦ every p k | false ↦ false ]
+
+every-step : (p : ℕ → Bool) (k : ℕ) → T (every p (suc k)) → (p k ≡ true) × T (every p k)
+unfolding every
+every-step p k t = go (p k) refl t
+  where
+    go : (b : Bool) → p k ≡ b → T (elim b [ true ↦ every p k | false ↦ false ]) → (p k ≡ true) × T (every p k)
+    go true e u = (e, u)
+    go false e u = absurd u
+
+-- what a test of every number below k computed holds of each
+pub every-at : (p : ℕ → Bool) (k : ℕ) → T (every p k) → (i : ℕ) → i < k → p i ≡ true
+every-at p zero t i h = absurd (omega arith)
+every-at p (suc k) t i h =
+    let s = every-step p k t in
+    ⊎-elim
+    (λ (e : i ≡ k). rw e (s .0))
+    (λ (l : i < k). every-at p k (s .1) i l)
+    (eq-or-lt-of-le (le-of-suc-le-suc h))
+
+ones-all : T (every (λ k. bit (2 ^ 64 - 1) k) 64)
+unfolding every bit
+ones-all = tt
+
+-- every bit of the word of all ones is set
+pub bit-ones : (i : ℕ) → i < 64 → bit (2 ^ 64 - 1) i ≡ true
+bit-ones i h = every-at (λ k. bit (2 ^ 64 - 1) k) 64 ones-all i h

@@ -1,2 +1,3 @@
 // The gaps of a guard: the states that make it false, in ascending order.
+pub mod rows;
 pub mod writing;
