@@ -5,3 +5,4 @@ pub mod Words
 pub mod RowsMade
 pub mod Gates
 pub mod Evaluating
+pub mod Flags

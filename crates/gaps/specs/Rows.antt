@@ -41,3 +41,18 @@ pub record FlagRows (n width : ℕ) (rows : List ℕ) : Type 0 where
 pub record Evaluated (n width : ℕ) (xs : List ℕ) (c : ℕ) (rows after : List ℕ) : Type 0 where
   pub long : length after ≡ length rows
   pub valued : (s : ℕ) → s < 64 * width → Valued n s c xs (inRow after width s)
+
+-- the word holds bit p of each of the 64 states of word w
+abbrev pub WordOf : ℕ → ℕ → ℕ → Type 0
+WordOf p w r = (b : ℕ) → b < 64 → bit r b ≡ bit (64 * w + b) p
+
+-- the row of words from x on holds bit p of each state, and no word before it is changed
+pub record FlagMade (rows : List ℕ) (x p width : ℕ) (after : List ℕ) : Type 0 where
+  pub long : length after ≡ length rows
+  pub made : (w : ℕ) → w < width → WordOf p w (getD after (x + w) 0)
+  pub kept : (k : ℕ) → k < x → getD after k 0 ≡ getD rows k 0
+
+-- the rows of true and of n flags are made
+pub record FlagsMade (n width : ℕ) (rows after : List ℕ) : Type 0 where
+  pub long : length after ≡ length rows
+  pub right : FlagRows n width after
