@@ -1,13 +1,13 @@
 -- Bit i of a word, as a Bool: of a shifted word, of two words joined, of a word that is all ones or zero, and the lowest one that is set.
-use Prim.Native.Nat.{ℕ, zero, suc, _+_, _*_, _-_, _/_, _%_, _^_, _≤_, _<_, max}
+use Prim.Native.Nat.{ℕ, zero, suc, _+_, _*_, _-_, _/_, _%_, _^_, _≤_, _<_, min, max}
 use mathlib.Core.Path.{_≡_, refl, sym, ap, ap₂, _∙_}
-use mathlib.Core.Bool.{Bool, true, false, not, _||_}
+use mathlib.Core.Bool.{Bool, true, false, not, _&&_, _||_}
 use mathlib.Core.Logic.{_⊎_, inl, inr, ⊎-elim}
 use native.Mathlib.Omega.{arith}
 use native.Mathlib.Nat.{pow-suc, zero-div, eq-or-lt-of-le, le-of-suc-le-suc}
 use lib.Dec.{T, eqb}
 use lib.Pow.{shr-shr}
-use lib.Bits.{bitOr, bitXor, differ, or-shr, xor-shr, or-step, xor-step}
+use lib.Bits.{bitAnd, bitOr, bitXor, differ, and-shr, and-step, or-shr, xor-shr, or-step, xor-step}
 use lib.Count.{trailingZeros, under}
 use borrow.Author.Tests.{eq-eqb, ne-eqb, eqb-true}
 use Rattle.truth.specs.Value.{bit, table}
@@ -64,6 +64,23 @@ xor-lowest a b =
 pub bit-or : (a b i : ℕ) → bit (bitOr a b) i ≡ (bit a i || bit b i)
 unfolding bit
 bit-or a b i = rw (or-shr a b i, or-lowest (a / 2 ^ i) (b / 2 ^ i)) (or-digit (a / 2 ^ i % 2) (b / 2 ^ i % 2) (omega arith) (omega arith))
+
+and-digit : (a b : ℕ) → a < 2 → b < 2 → eqb (min a b) 1 ≡ (eqb a 1 && eqb b 1)
+and-digit a b p q =
+    ⊎-elim
+    (λ (x : a ≡ 0). ⊎-elim (λ (y : b ≡ 0). rw (x, y)) (λ (y : b ≡ 1). rw (x, y)) (digit b q))
+    (λ (x : a ≡ 1). ⊎-elim (λ (y : b ≡ 0). rw (x, y)) (λ (y : b ≡ 1). rw (x, y)) (digit b q))
+    (digit a p)
+
+and-lowest : (a b : ℕ) → bitAnd a b % 2 ≡ min (a % 2) (b % 2)
+and-lowest a b =
+    let p : a % 2 < 2 = omega arith in
+    let q : b % 2 < 2 = omega arith in
+    rw and-step (omega arith)
+
+pub bit-and : (a b i : ℕ) → bit (bitAnd a b) i ≡ (bit a i && bit b i)
+unfolding bit
+bit-and a b i = rw (and-shr a b i, and-lowest (a / 2 ^ i) (b / 2 ^ i)) (and-digit (a / 2 ^ i % 2) (b / 2 ^ i % 2) (omega arith) (omega arith))
 
 -- the bits of two words differ
 pub bit-xor : (a b i : ℕ) → bit (bitXor a b) i ≡ not (table same (bit a i) (bit b i))

@@ -20,7 +20,7 @@ use Rattle.gaps.proofs.Bits.{bit-shifted, bit-none, bit-ones, every, ev
 abbrev pub low : List ℕ
 low = 0xAAAAAAAAAAAAAAAA ∷ 0xCCCCCCCCCCCCCCCC ∷ 0xF0F0F0F0F0F0F0F0 ∷ 0xFF00FF00FF00FF00 ∷ 0xFFFF0000FFFF0000 ∷ 0xFFFFFFFF00000000 ∷ []
 
-beq-eq : (a b : Bool) → Bool·beq a b ≡ true → a ≡ b
+pub beq-eq : (a b : Bool) → Bool·beq a b ≡ true → a ≡ b
 beq-eq true true e = refl
 beq-eq true false e = sym e
 beq-eq false true e = e

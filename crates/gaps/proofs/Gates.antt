@@ -72,7 +72,7 @@ turned-bit l a b h =
     (parity l)
 
 -- turned by the other sign
-turned-other : (l a b : ℕ) → b < 64 → bit (bitXor a (turned (l + 1))) b ≡ not (choose (eqb (l % 2) 0) (bit a b) (not (bit a b)))
+pub turned-other : (l a b : ℕ) → b < 64 → bit (bitXor a (turned (l + 1))) b ≡ not (choose (eqb (l % 2) 0) (bit a b) (not (bit a b)))
 turned-other l a b h =
     ⊎-elim
     (λ (e : l % 2 ≡ 0). rw (turned-bit (l + 1) a b h, eq-eqb (l % 2) 0 e, ne-eqb ((l + 1) % 2) 0 (λ (z : (l + 1) % 2 ≡ 0). omega arith)))

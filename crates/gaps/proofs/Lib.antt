@@ -6,3 +6,5 @@ pub mod RowsMade
 pub mod Gates
 pub mod Evaluating
 pub mod Flags
+pub mod Since
+pub mod RowWriting

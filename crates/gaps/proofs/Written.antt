@@ -38,12 +38,12 @@ module _ (out : List ℕ) where
   unfolding placed
   placed-more l h = rw (drop-past (length l) out h) (append-nil (take (length out) l))
 
-either : (b : Bool) → (b ≡ true) ⊎ (b ≡ false)
+pub either : (b : Bool) → (b ≡ true) ⊎ (b ≡ false)
 either true = inl refl
 either false = inr refl
 
 -- all were written: there was room for them
-found-done : (out l : List ℕ) (k : ℕ) → Done k ≡ found l (length out) → (length l ≤ length out) × (k ≡ length l)
+pub found-done : (out l : List ℕ) (k : ℕ) → Done k ≡ found l (length out) → (length l ≤ length out) × (k ≡ length l)
 found-done out l k e =
     ⊎-elim
     (λ (b : leb (length l) (length out) ≡ true).
