@@ -8,3 +8,4 @@ pub mod Evaluating
 pub mod Flags
 pub mod Since
 pub mod RowWriting
+pub mod Fixes

@@ -1,3 +1,4 @@
 pub mod Gaps
 pub mod Writing
 pub mod Rows
+pub mod Fixing
