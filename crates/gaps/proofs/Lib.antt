@@ -9,3 +9,4 @@ pub mod Flags
 pub mod Since
 pub mod RowWriting
 pub mod Fixes
+pub mod Standing

@@ -1,11 +1,13 @@
 -- A guard with its first flag fixed: triplets over one flag fewer, which have its value in every state that agrees.
-use Prim.Native.Nat.{ℕ, suc, _+_, _*_, _/_, _≤_, _<_}
+use Prim.Native.Nat.{ℕ, suc, _+_, _*_, _-_, _/_, _≤_, _<_}
 use mathlib.Core.Path.{_≡_}
 use mathlib.Core.Bool.{Bool, true}
 use mathlib.Core.List.{List}
 use mathlib.Core.Logic.{_⊎_}
-use lib.ListN.{length}
-use Rattle.notation.specs.Shape.{Names, Shape}
+use lib.ListN.{length, getD}
+use Rattle.notation.specs.Tokens.{choose}
+use Rattle.notation.specs.Triplets.{tripletVariable, negation}
+use Rattle.notation.specs.Shape.{Names, Shape, kindAt, yAt, zAt}
 use Rattle.truth.specs.Value.{bit}
 use Rattle.truth.specs.Computed.{literalValue, gate, computed}
 
@@ -32,3 +34,33 @@ pub record Fixed (n : ℕ) (b : Bool) (xs : List ℕ) (count root : ℕ) (ys : L
   pub shape : Shape n c ys
   pub named : Names n c r
   pub valued : (s : ℕ) → bit s n ≡ b → literalValue (computed n s ys c) r ≡ literalValue (computed (suc n) s xs count) root
+
+-- the table says that triplet j became the literal t, and of every other variable what it said
+pub record Put (to : List ℕ) (j t : ℕ) (after : List ℕ) : Type 0 where
+  pub long : length after ≡ length to
+  pub even : getD after (2 * tripletVariable (suc j)) 0 ≡ t
+  pub odd : getD after (2 * tripletVariable (suc j) + 1) 0 ≡ negation t
+  pub others : (l : ℕ) → (l / 2 ≡ tripletVariable (suc j) → ⊥) → getD after l 0 ≡ getD to l 0
+
+-- the table at the start: true and false stay, the first flag is b, each further flag is one less
+pub record StartedBy (n : ℕ) (b : Bool) (to after : List ℕ) : Type 0 where
+  pub long : length after ≡ length to
+  pub top : getD after 0 0 ≡ 0
+  pub bottom : getD after 1 0 ≡ 1
+  pub first : getD after 2 0 ≡ choose b 0 1
+  pub not-first : getD after 3 0 ≡ choose b 1 0
+  pub others : (l : ℕ) → 4 ≤ l → l ≤ 2 * n + 3 → getD after l 0 ≡ l - 2
+
+-- triplet j is of kind 0 or 1, and what became of its operands lies below it
+pub record Operands (xs : List ℕ) (j : ℕ) (to : List ℕ) : Type 0 where
+  pub kind : kindAt xs j ≤ 1
+  pub y : (yAt xs j < length to) × (getD to (yAt xs j) 0 / 2 < tripletVariable (suc j))
+  pub z : (zAt xs j < length to) × (getD to (zAt xs j) 0 / 2 < tripletVariable (suc j))
+
+-- triplet j became the literal t: one that stands for it, or that of the next triplet of ys, of the same kind
+pub record TripletFixed (xs : List ℕ) (j : ℕ) (to : List ℕ) (c : ℕ) (ys to′ : List ℕ) (c′ : ℕ) (ys′ : List ℕ) : Type 0 where
+  pub t : ℕ
+  pub put : Put to j t to′
+  pub agree : (k : ℕ) → k < 3 * c → getD ys′ k 0 ≡ getD ys k 0
+  pub became : ((c′ ≡ c) × Stands (kindAt xs j) (getD to (yAt xs j) 0) (getD to (zAt xs j) 0) t)
+      ⊎ ((c′ ≡ suc c) × (t ≡ 2 * tripletVariable (suc c)) × (kindAt ys′ c ≡ kindAt xs j) × (yAt ys′ c ≡ getD to (yAt xs j) 0) × (zAt ys′ c ≡ getD to (zAt xs j) 0))

@@ -1,3 +1,4 @@
 // The gaps of a guard: the states that make it false, in ascending order.
+pub mod fixing;
 pub mod rows;
 pub mod writing;

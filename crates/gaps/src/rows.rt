@@ -1,5 +1,4 @@
 // The values of variables in many states at once: 64 states to a word, a row of words to a variable.
-use notation::ceilings::CONNECTIVES;
 use notation::ceilings::FLAGS;
 ghost use mathlib.Core.Path.{_≡_};
 ghost use Prim.Native.Nat.{ℕ, suc, _+_, _*_, _-_, _/_, _^_, _≤_, _<_};
