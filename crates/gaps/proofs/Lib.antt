@@ -10,3 +10,5 @@ pub mod Since
 pub mod RowWriting
 pub mod Fixes
 pub mod Standing
+pub mod Blocks
+pub mod Walks

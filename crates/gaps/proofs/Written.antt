@@ -137,3 +137,9 @@ writes-stop out after m k x l l′ w =
       answers = rw e (w .answers ∙ found-more out all h ∙ sym (found-more out (all ++ l′) b ∙ ap (More (length out)) (List·getD-append all l′ 0 (length out) h)));
       holds = rw e (w .holds ∙ placed-more out all (omega arith) ∙ sym (placed-more out (all ++ l′) (omega arith) ∙ take-append-le (length out) all l′ (omega arith)));
     }
+
+-- where all were written, they stand within the slice
+pub writes-room : (out after : List ℕ) (m k : ℕ) (l : List ℕ) (r : Found) → r ≡ Done k → Writes out m l r after → k ≤ length out
+writes-room out after m k l r e w =
+    let d = found-done out (take m out ++ l) k (sym e ∙ w .answers) in
+    omega (arith, d .0, d .1)

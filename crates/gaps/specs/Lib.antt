@@ -2,3 +2,4 @@ pub mod Gaps
 pub mod Writing
 pub mod Rows
 pub mod Fixing
+pub mod Walking

@@ -1,4 +1,5 @@
 // The gaps of a guard: the states that make it false, in ascending order.
 pub mod fixing;
 pub mod rows;
+pub mod walk;
 pub mod writing;
