@@ -4,10 +4,10 @@ use mathlib.Core.Path.{_≡_, refl, sym, ap, _∙_}
 use mathlib.Core.Bool.{Bool, true, false}
 use mathlib.Core.List.{List, [], _++_}
 use native.Mathlib.Omega.{arith}
-use native.Mathlib.Nat.{pow-suc, mul-comm, mul-assoc, suc-mul}
+use native.Mathlib.Nat.{pow-suc, mul-comm, mul-assoc, suc-mul, zero-mod}
 use native.Mathlib.Numerals.{add-one}
 use lib.ListN.{length}
-use lib.Pow.{low, high, pow-pos, shl-exact}
+use lib.Pow.{low, high, pow-pos, pow-mono, shl-exact}
 use lib.Dec.{eqb, ltb}
 use Rattle.notation.specs.Tokens.{choose}
 use Rattle.notation.specs.Ceilings.{flagCeiling, connectiveCeiling}
@@ -18,12 +18,13 @@ use Rattle.truth.proofs.Computing.{flag-kept, true-at-start}
 use Rattle.gaps.specs.declared.writing.Found.{Found}
 use Rattle.gaps.specs.declared.writing.Found.the-variants.{Done, More}
 use Rattle.gaps.specs.Gaps.{falseFrom}
-use Rattle.gaps.specs.Rows.{FlagRows}
+use Rattle.notation.specs.Triplets.{tripletVariable}
+use Rattle.gaps.specs.Rows.{FlagRows, FlagsMade}
 use Rattle.gaps.specs.Writing.{Writes, since}
 use Rattle.gaps.specs.Fixing.{Fixed}
 use Rattle.gaps.specs.Walking.{rootValue, Triplets, Rows, Stretch, Walked}
 use Rattle.gaps.proofs.Ascending.{false-none, false-parts}
-use Rattle.gaps.proofs.Since.{since-same, since-none}
+use Rattle.gaps.proofs.Since.{since-same, since-none, since-whole}
 use Rattle.gaps.proofs.Blocks.{multiple}
 use Rattle.gaps.proofs.Written.{writes-none, writes-then, writes-stop}
 
@@ -160,3 +161,26 @@ shifted m h = shl-exact {a = 1} 1 m 64 (omega arith) (omega arith) ∙ one-times
 
 pub rows-again : (low width : ℕ) (rows rows′ : List ℕ) → Rows low width rows → length rows′ ≡ length rows → FlagRows low width rows′ → Rows low width rows′
 rows-again low width rows rows′ r e f = record { enough = r .enough; long = rw e (r .long); right = f }
+
+-- what counts from the start on, in all states, is what is false from the start on
+from-start : (v : ℕ → Bool) (start n : ℕ) → start ≤ n → falseFrom (since start v) 0 n ≡ falseFrom v start (n - start)
+from-start v start n h =
+    let e : n ≡ start + (n - start) = omega arith in
+    let z : 0 + start ≡ start = omega arith in
+    ap (falseFrom (since start v) 0) e ∙ false-parts (since start v) 0 start (n - start)
+    ∙ (rw (since-none start v 0 start (omega arith), z) (since-whole start v start (n - start) (omega arith)))
+
+pub searched : (v : ℕ → Bool) (start n low width : ℕ) (out out′ rows : List ℕ) (r : Found) → start ≤ 2 ^ n → Walked v start 0 n low width 0 out r out′ rows
+    → Writes out 0 (falseFrom v start (2 ^ n - start)) r out′
+searched v start n low width out out′ rows r h w = rw (from-start v start (2 ^ n) h) at (w .writes)
+
+-- all states are a stretch
+pub stretch-all : (n width : ℕ) → n ≤ flagCeiling → width ≤ 32 → Stretch n width 0
+stretch-all n width h b =
+    record { aligned = zero-mod (2 ^ n); small = omega (arith, pow-mono {i = n} {j = flagCeiling} h) }
+
+-- rows that hold the states of so many flags
+pub rows-all : (low most width : ℕ) (rows after : List ℕ) → low ≤ most → 2 ^ most ≤ 64 * width → tripletVariable (suc connectiveCeiling) * width ≤ length rows
+    → FlagsMade low width rows after → Rows low width after
+rows-all low most width rows after h b l f =
+    record { enough = omega (arith, pow-mono {i = low} {j = most} h); long = rw (f .long) l; right = f .right }
