@@ -12,3 +12,5 @@ pub mod Fixes
 pub mod Standing
 pub mod Blocks
 pub mod Walks
+pub mod Complete
+pub mod OfGuard

@@ -3,3 +3,4 @@ pub mod Writing
 pub mod Rows
 pub mod Fixing
 pub mod Walking
+pub mod Listed

@@ -1,5 +1,6 @@
 // Finds the gaps of triplets: rows of words as wide as the flags need, and then the walk.
 use crate::rows::flag_rows;
+use crate::walk::block;
 use crate::walk::walk;
 use crate::writing::Found;
 ghost use Prim.Native.Nat.{_^_, _-_, _≤_, _<_};
@@ -7,28 +8,17 @@ ghost use Rattle.gaps.specs.Gaps.{falseFrom};
 ghost use Rattle.gaps.specs.Writing.{Writes};
 ghost use Rattle.gaps.specs.Walking.{rootValue, Triplets};
 
+// What a row holds before it is made is never read; a fill of unequal bytes is a plain loop, where one of equal bytes may
+// become a call that is dear for a guard of few flags.
+
 // At most 6 flags: one word to a row.
 fn narrow(xs: &[u16], count: usize, root: u16, n: usize, start: u64, out: &mut [u32]) -> Found
     requires { ⌜ Triplets n (now xs) count root × (n ≤ 6) × (start ≤ 2 ^ n) ⌝ }
     ensures { λ r. ⌜ Writes (now (out .entry)) 0 (falseFrom (rootValue n (now (xs .entry)) count root) start (2 ^ n - start)) r (now (out .exit)) ⌝ }
 {
     let mut rows = [72623859790382856u64; 280];
-    let mut to = [258u16; 560];
     flag_rows(&mut rows, n, 1);
-    walk(
-        xs,
-        count,
-        root,
-        n,
-        n,
-        &mut rows,
-        1,
-        &mut to,
-        0,
-        start,
-        0,
-        out,
-    )
+    block(xs, count, root, n, &mut rows, 1, 0, start, 0, out)
 }
 
 // At most 8 flags: four words to a row.
@@ -37,22 +27,8 @@ fn middle(xs: &[u16], count: usize, root: u16, n: usize, start: u64, out: &mut [
     ensures { λ r. ⌜ Writes (now (out .entry)) 0 (falseFrom (rootValue n (now (xs .entry)) count root) start (2 ^ n - start)) r (now (out .exit)) ⌝ }
 {
     let mut rows = [72623859790382856u64; 1120];
-    let mut to = [258u16; 560];
     flag_rows(&mut rows, n, 4);
-    walk(
-        xs,
-        count,
-        root,
-        n,
-        n,
-        &mut rows,
-        4,
-        &mut to,
-        0,
-        start,
-        0,
-        out,
-    )
+    block(xs, count, root, n, &mut rows, 4, 0, start, 0, out)
 }
 
 // More flags: 32 words to a row, so that the last 11 flags need no walk.

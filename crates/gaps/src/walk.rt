@@ -12,7 +12,7 @@ ghost use Rattle.truth.specs.Value.{bit};
 ghost use Rattle.gaps.specs.Walking.{rootValue, Triplets, Rows, Stretch, Walked};
 
 // All states of n flags at once.
-fn block(
+pub fn block(
     xs: &[u16],
     count: usize,
     root: u16,
