@@ -1,18 +1,18 @@
--- What a text says: a guard with the codes of its flags, or the refusal of a text that is none.
+-- What a text says: a guard with its flags, or the refusal of a text that is none.
 use Prim.Native.Nat.{ℕ, suc}
 use mathlib.Core.Bool.{Bool, true, false}
 use mathlib.Core.List.{List, []}
 use lib.ListN.{length}
 use lib.Dec.{leb}
 use Rattle.notation.specs.Ceilings.{textCeiling}
-use Rattle.notation.specs.Tokens.{Code, tokens, choose}
-use Rattle.notation.specs.Walk.{Outcome, walk, operand}
+use Rattle.notation.specs.Tokens.{tokens, choose}
+use Rattle.notation.specs.Walk.{Flag, Outcome, walk, operand}
 use Rattle.notation.specs.Guard.{Guard}
 use Rattle.notation.specs.Grammar.{tree}
 
 pub data Reading : Type 0 where
   refusal : ℕ → ℕ → Reading
-  guard : Guard → List Code → Reading
+  guard : Guard → List Flag → Reading
 
 -- where the walk accepts, the guard is the tree of the tokens
 unfoldable pub judged : Outcome → Guard → Reading

@@ -14,34 +14,39 @@ sameCode [] (b ∷ d) = false
 sameCode (a ∷ c) [] = false
 sameCode (a ∷ c) (b ∷ d) = choose (eqb a b) (sameCode c d) false
 
--- the code is among those seen
-unfoldable pub known : Code → List Code → Bool
-known c [] = false
-known c (d ∷ u) = choose (sameCode c d) true (known c u)
+-- a flag: its code, and the place where that first stands
+pub record Flag : Type 0 where
+  pub place : ℕ
+  pub name : Code
 
--- the codes seen once this one is: flags go by first appearance
-unfoldable pub seen : Code → List Code → List Code
-seen c u = choose (known c u) u (u ++ (c ∷ []))
+-- the code is among those seen
+unfoldable pub known : Code → List Flag → Bool
+known c [] = false
+known c (f ∷ u) = choose (sameCode c (f .name)) true (known c u)
+
+-- the codes seen once the code c at place p is: flags go by first appearance
+unfoldable pub seen : ℕ → Code → List Flag → List Flag
+seen p c u = choose (known c u) u (u ++ (record { place = p; name = c } ∷ []))
 
 -- what is wanted next: an operand, or what may stand after one
 pub data Wanted : Type 0 where
   operand after : Wanted
 
--- a refusal with its number and place; or the codes and the number of connectives of a whole guard
+-- a refusal with its number and place; or the flags and the number of connectives of a whole guard
 pub data Outcome : Type 0 where
   refused : ℕ → ℕ → Outcome
-  accepted : List Code → ℕ → Outcome
+  accepted : List Flag → ℕ → Outcome
 
 -- the walk goes on where k is within the ceiling, and is refused otherwise
 unfoldable pub within : ℕ → ℕ → ℕ → ℕ → Outcome → Outcome
 within k ceiling number p rest = choose (leb k ceiling) rest (refused number p)
 
 -- d brackets are open, the codes u and m connectives have been seen
-unfoldable pub walk : Wanted → ℕ → List Code → ℕ → Tokens → Outcome
+unfoldable pub walk : Wanted → ℕ → List Flag → ℕ → Tokens → Outcome
 walk operand d u m (end p) = refused 5 p
 walk operand d u m (at p stray ts) = refused 3 p
 walk operand d u m (at p long ts) = refused 4 p
-walk operand d u m (at p (code c) ts) = within (length (seen c u)) flagCeiling 7 p (walk after d (seen c u) m ts)
+walk operand d u m (at p (code c) ts) = within (length (seen p c u)) flagCeiling 7 p (walk after d (seen p c u) m ts)
 walk operand d u m (at p (hash b) ts) = walk after d u m ts
 walk operand d u m (at p bang ts) = walk operand d u m ts
 walk operand d u m (at p (sign s) ts) = refused 5 p

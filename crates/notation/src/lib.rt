@@ -1,2 +1,4 @@
-// Trestulan's reader.
-pub fn nothing() {}
+// The guard notation: what a text of bytes says, or why and where it is refused.
+pub mod ceilings;
+pub mod refusal;
+pub mod tokens;

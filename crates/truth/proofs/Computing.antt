@@ -1,10 +1,11 @@
 -- What triplets compute is what their operands make of them, where the operands are known before them.
 use Prim.Native.Nat.{ℕ, zero, suc, _+_, _*_, _-_, _/_, _%_, _≤_, _<_}
-use mathlib.Core.Path.{_≡_, refl, sym, ap, ap₂, _∙_}
+use mathlib.Core.Path.{_≡_, refl, sym, ap, ap₂, _∙_, fun-ext}
 use mathlib.Core.Bool.{Bool, true, false, not}
 use mathlib.Core.List.{List}
 use mathlib.Core.Logic.{_⊎_, inl, inr, ⊎-elim}
 use native.Mathlib.Omega.{arith}
+use lib.ListN.{getD}
 use lib.Dec.{eqb}
 use borrow.Author.Tests.{eq-eqb, ne-eqb}
 use Rattle.notation.specs.Ceilings.{flagCeiling}
@@ -30,15 +31,15 @@ module _ (n s : ℕ) (xs : List ℕ) where
       let e : j + suc d ≡ suc (j + d) = omega arith in
       rw (e, ne-eqb v (tripletVariable (suc (j + d))) (λ p. omega arith)) (triplet-kept d j v h)
 
-  true-at-start : computed n s xs 0 0 ≡ true
+  pub true-at-start : computed n s xs 0 0 ≡ true
   unfolding computed
   true-at-start = refl
 
-  flag-at-start : (i : ℕ) → 0 < i → computed n s xs 0 i ≡ bit s (n - i)
+  pub flag-at-start : (i : ℕ) → 0 < i → computed n s xs 0 i ≡ bit s (n - i)
   unfolding computed
   flag-at-start i h = rw (ne-eqb i 0 (λ e. omega arith))
 
-  triplet-made : (j : ℕ) → computed n s xs (suc j) (tripletVariable (suc j)) ≡ gate (kindAt xs j) (literalValue (computed n s xs j) (yAt xs j)) (literalValue (computed n s xs j) (zAt xs j))
+  pub triplet-made : (j : ℕ) → computed n s xs (suc j) (tripletVariable (suc j)) ≡ gate (kindAt xs j) (literalValue (computed n s xs j) (yAt xs j)) (literalValue (computed n s xs j) (zAt xs j))
   unfolding computed
   triplet-made j = rw (eq-eqb (tripletVariable (suc j)) (tripletVariable (suc j)) refl)
 
@@ -61,3 +62,11 @@ module _ (n s : ℕ) (xs : List ℕ) where
     -- what is computed gives every variable its value
     pub valued : (c : ℕ) → Shape n c xs → Valued n s c xs (computed n s xs c)
     valued c shape = record { top = flag-kept c 0 (omega arith) ∙ true-at-start; flags = λ i p q. flag-kept c i (omega arith) ∙ flag-at-start i p; gates = λ j h. triplet-holds c j shape h }
+
+-- what is computed of c triplets goes by their numbers alone
+pub computed-same : (n s c : ℕ) (xs ys : List ℕ) → ((k : ℕ) → k < 3 * c → getD ys k 0 ≡ getD xs k 0) → (v : ℕ) → computed n s ys c v ≡ computed n s xs c v
+unfolding computed
+computed-same n s zero xs ys h v = refl
+computed-same n s (suc c) xs ys h v =
+    let e : computed n s ys c ≡ computed n s xs c = fun-ext (computed-same n s c xs ys (λ k p. h k (omega arith))) in
+    rw (e, h (3 * c) (omega arith), h (3 * c + 1) (omega arith), h (3 * c + 2) (omega arith))

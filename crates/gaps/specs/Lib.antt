@@ -1,0 +1,5 @@
+pub mod Gaps
+pub mod Writing
+pub mod Rows
+pub mod Fixing
+pub mod Walking

@@ -1,0 +1,6 @@
+// The gaps of a guard: the states that make it false, in ascending order.
+pub mod fixing;
+pub mod rows;
+pub mod search;
+pub mod walk;
+pub mod writing;
