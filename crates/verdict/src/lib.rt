@@ -1,2 +1,3 @@
 // What check answers: covered, a gap or undecided.
+pub mod answer;
 pub mod decide;
