@@ -1,3 +1,10 @@
 pub mod Table
 pub mod Cutting
+pub mod Coding
+pub mod Writing
+pub mod Leveling
+pub mod Stepping
+pub mod Operands
+pub mod Joining
+pub mod Nesting
 pub mod Examples
