@@ -1,6 +1,7 @@
 -- `verdict::answer::by_tables` meets its contract: the first gap is the answer at every depth not below the number of flags.
 use mathlib.Core.Path.{refl}
 use native.Mathlib.Omega.{arith}
+use lib.Pow.{pow-pos}
 use Rattle.verdict.proofs.Tables.{searchable, fully-found}
 use borrow.Author.Needs.{needs}
 use Rattle.verdict.proofs.answer.by_tables.Statement.{statement}
@@ -19,7 +20,7 @@ search-requires : tie.Need-search-requires
 search-requires c κs =
     let args· = c .before .before .args in
     let pre· = c .before .before .pre in
-    (searchable (args· .triplets .now) (args· .count) (args· .flags) (args· .root) (pre·), omega arith)
+    (searchable (args· .triplets .now) (args· .count) (args· .flags) (args· .root) (pre·), omega (arith, pow-pos (args· .flags)))
 
 decision-of-requires : tie.Need-decision-of-requires
 decision-of-requires c κs = search needs
