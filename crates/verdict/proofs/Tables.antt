@@ -30,6 +30,7 @@ use Rattle.gaps.specs.Gaps.{falseFrom}
 use Rattle.gaps.specs.Writing.{found, Writes}
 use Rattle.gaps.specs.Walking.{rootValue, Triplets}
 use Rattle.gaps.proofs.Ascending.{false-not, false-one}
+use Rattle.verdict.specs.Check.{GuardSays, verdictOf}
 use Rattle.verdict.specs.Decision.{FromGuard, Askable, Decided, FullyDecided, firstGap, meant}
 use Rattle.gaps.specs.declared.writing.Found.{Found}
 use Rattle.gaps.specs.declared.writing.Found.the-variants.{Done, More}
@@ -113,6 +114,9 @@ module _ (xs : List ℕ) (c n root : ℕ) (g : Guard) (within : FlagsWithin n g)
   pub at-guard : (k : ℕ) (r : Decision) → Answer (Flags n) (triplets 0 g) (literal 0 g) k n (meant r) → Decided xs c n root k r
   at-guard k r a = rw (listed, literal-of) a
 
+  pub of-guard : (k : ℕ) (r : Decision) → Decided xs c n root k r → Answer (Flags n) (triplets 0 g) (literal 0 g) k n (meant r)
+  of-guard k r a = rw (listed, literal-of) at a
+
 module _ (xs : List ℕ) (c n root : ℕ) (from : FromGuard xs c n root) where
   abbrev g : Guard
   g = from .guard
@@ -145,6 +149,12 @@ module _ (xs : List ℕ) (c n root : ℕ) (from : FromGuard xs c n root) where
 
   its-answer : (k : ℕ) (r : Decision) → Answer (Flags n) (triplets 0 g) (literal 0 g) k n (meant r) → Decided xs c n root k r
   its-answer = at-guard xs c n root g (from .proper .within) (from .count) (from .literal) (from .written)
+
+  -- what is decided of the triplets is the verdict on the guard
+  pub guard-says : (k : ℕ) (r : Decision) → Decided xs c n root k r → GuardSays n g k (verdictOf r)
+  guard-says k Covered a = of-guard xs c n root g (from .proper .within) (from .count) (from .literal) (from .written) k Covered a
+  guard-says k (Gap s) a = of-guard xs c n root g (from .proper .within) (from .count) (from .literal) (from .written) k (Gap s) a
+  guard-says k Undecided a = of-guard xs c n root g (from .proper .within) (from .count) (from .literal) (from .written) k Undecided a
 
   -- the list of all gaps, with nothing written of it, says the answer
   fully : (l : List ℕ) → falseFrom (rootValue n xs c root) 0 (2 ^ n - 0) ≡ l → FullyDecided xs c n root (firstGap (found l 0))

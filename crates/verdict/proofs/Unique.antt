@@ -1,4 +1,4 @@
--- No second verdict satisfies check's statement, and a verdict on the triplets of a guard is one on the guard.
+-- No second verdict satisfies check's statement.
 use Prim.Native.Nat.{ℕ}
 use mathlib.Core.Path.{_≡_, refl, sym, ap, _∙_}
 use mathlib.Core.List.{List}
