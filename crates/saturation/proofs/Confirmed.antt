@@ -14,10 +14,9 @@ use Rattle.notation.specs.Triplets.{Triplet, negation, literal, triplets}
 use Rattle.truth.specs.Value.{value}
 use Rattle.truth.proofs.Literals.{parity}
 use Rattle.saturation.specs.Saturation.{taken, Flags}
-use Rattle.saturation.specs.Answer.{covered, gap, flagAs, flagsAs, Refuted, Trial, Answer}
+use Rattle.saturation.specs.Answer.{Proper, covered, gap, flagAs, flagsAs, Refuted, Trial, Answer}
 use Rattle.saturation.proofs.Depth.{raised}
 use Rattle.saturation.proofs.States.{firstOf, first-all, first-half}
-use Rattle.saturation.proofs.Valuations.{Proper}
 use Rattle.saturation.proofs.Verdicts.{not-refuted, first-flags, next-as, gap-false}
 use Rattle.saturation.proofs.Enough.{one-more-0, no-gap-refuted}
 

@@ -6,8 +6,7 @@ use Rattle.notation.specs.Guard.{Guard}
 use Rattle.notation.specs.Triplets.{literal, triplets}
 use Rattle.truth.specs.Value.{value}
 use Rattle.saturation.specs.Saturation.{Flags}
-use Rattle.saturation.specs.Answer.{Verdict, covered, gap, undecided, Checked}
-use Rattle.saturation.proofs.Valuations.{Proper}
+use Rattle.saturation.specs.Answer.{Proper, Verdict, covered, gap, undecided, Checked}
 use Rattle.saturation.proofs.Verdicts.{covered-true, gap-false, gap-first, answer-unique}
 use Rattle.saturation.proofs.Enough.{never-undecided}
 use Rattle.saturation.proofs.Confirmed.{trial-below, covered-kept, gap-kept, full-covered, full-gap}

@@ -11,11 +11,10 @@ use Rattle.notation.specs.Triplets.{tripletVariable, negation, tripletOf, liter
 use Rattle.truth.specs.Value.{bit, table, value}
 use Rattle.steps.specs.Table.{entry, follows, pattern}
 use Rattle.saturation.specs.Saturation.{Flags}
-use Rattle.saturation.specs.Answer.{covered, gap, undecided, flagAs, flagsAs, Refuted, Checked}
+use Rattle.saturation.specs.Answer.{Proper, covered, gap, undecided, flagAs, flagsAs, Refuted, Checked}
 use Rattle.saturation.proofs.Sketches.{Binding, signed, replaced, lead, sketched}
 use Rattle.saturation.proofs.Certificates.{joined as joins, named, stepped, passed, rested, begun, refutes, unmoved, holding, run-refutes, sketch-stands}
 use Rattle.saturation.proofs.Depth.{Among}
-use Rattle.saturation.proofs.Valuations.{Proper}
 use Rattle.saturation.proofs.Verdicts.{not-refuted}
 use Rattle.saturation.proofs.Confirmed.{confirmed}
 

@@ -13,11 +13,10 @@ use Rattle.relation.specs.Relation.{Rel, IsRelation}
 use Rattle.truth.specs.Value.{value}
 use Rattle.truth.proofs.Literals.{parity}
 use Rattle.saturation.specs.Saturation.{Stable, Flags}
-use Rattle.saturation.specs.Answer.{undecided, flagAs, flagsAs, Refuted, Trial, Answer}
+use Rattle.saturation.specs.Answer.{Proper, undecided, flagAs, flagsAs, Refuted, Trial, Answer}
 use Rattle.saturation.proofs.Taking.{HoldsAll, taken-above, taking-above, taking-holds}
 use Rattle.saturation.proofs.Depth.{stable-rest}
 use Rattle.saturation.proofs.States.{not-both, firstOf, holds-more}
-use Rattle.saturation.proofs.Valuations.{Proper}
 use Rattle.saturation.proofs.Verdicts.{all-fixed, refuted-true}
 
 -- one flag more, as 0 or as 1

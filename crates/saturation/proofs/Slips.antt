@@ -12,7 +12,7 @@ use Rattle.steps.specs.Step.{always, own-x, not-y, own-z}
 use Rattle.saturation.specs.Saturation.{taken, Saturated}
 use Rattle.saturation.proofs.Taking.{taken-above, above-taken}
 use Rattle.saturation.proofs.Fixed.{literalFor}
-use Rattle.saturation.proofs.Valuations.{Proper}
+use Rattle.saturation.specs.Answer.{Proper}
 use Rattle.saturation.proofs.Verdicts.{tied-in-gaps}
 
 -- `!A>A`

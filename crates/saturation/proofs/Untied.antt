@@ -20,7 +20,7 @@ use Rattle.saturation.proofs.Taking.{taking-above, taking-holds}
 use Rattle.saturation.proofs.Depth.{Among, stable-rest}
 use Rattle.saturation.proofs.Fixed.{literalFor}
 use Rattle.saturation.proofs.States.{flag-tied, BitsOf, state-of}
-use Rattle.saturation.proofs.Valuations.{Proper}
+use Rattle.saturation.specs.Answer.{Proper}
 use Rattle.saturation.proofs.Verdicts.{tied-contradicts}
 
 -- i is one of the list

@@ -19,13 +19,9 @@ use Rattle.truth.proofs.Root.{count-triplets, root-value}
 use Rattle.steps.specs.Step.{connected}
 use Rattle.steps.specs.Rest.{Each}
 use Rattle.steps.proofs.RestLaws.{each-at, at-each, each-both, tripletAt}
+use Rattle.saturation.specs.Answer.{Proper}
 use Rattle.saturation.proofs.Fixed.{same-table, implies-table}
 use Rattle.saturation.proofs.Truth.{Makes, Satisfying}
-
--- a guard of n flags, as reading makes it
-pub record Proper (n : ℕ) (g : Guard) : Type 0 where
-  pub few : n ≤ flagCeiling
-  pub within : FlagsWithin n g
 
 -- a literal of true, a flag, or a triplet before the variable w, over n flags
 abbrev Before : ℕ → ℕ → ℕ → Type 0
@@ -97,6 +93,13 @@ module _ (n : ℕ) where
     where
       placed : (j : ℕ) → j < connectives g → Placed n (tripletAt (numbers (triplets 0 g)) j) (2 * tripletVariable (0 + (j + 1)))
       placed j h = each-at (Placed n) 0 (triplets 0 g) (triplets-placed g 0 f) j (rw (count-triplets 0 g) h)
+
+  -- and the root is a literal that they name
+  pub root-named : (g : Guard) → FlagsWithin n g → Names n (connectives g) (literal 0 g)
+  root-named g f =
+      ⊎-elim (λ p. inl p)
+      (λ (p : (tripletVariable 0 < literal 0 g / 2) × (literal 0 g / 2 < tripletVariable (suc (0 + connectives g)))). inr (p .0, omega arith))
+      (literal-before g 0 f)
 
 pub gate-connected : (k : ℕ) (a b : Bool) → gate k a b ≡ connected k a b
 unfolding gate

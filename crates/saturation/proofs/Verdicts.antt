@@ -16,13 +16,13 @@ use Rattle.truth.proofs.Literals.{literal-even, literal-negation, parity}
 use Rattle.steps.specs.Rest.{NoStepEnlarges}
 use Rattle.steps.proofs.Sides.{negation-twice}
 use Rattle.saturation.specs.Saturation.{taken, Saturated}
-use Rattle.saturation.specs.Answer.{Verdict, covered, gap, undecided, flagAs, flagsAs, Refuted, Trial, Answer}
+use Rattle.saturation.specs.Answer.{Proper, Verdict, covered, gap, undecided, flagAs, flagsAs, Refuted, Trial, Answer}
 use Rattle.saturation.proofs.Taking.{HoldsAll, above-taken, taken-above}
 use Rattle.saturation.proofs.Depth.{stable-rest}
 use Rattle.saturation.proofs.Truth.{AllTrue, Satisfying, agreeing, all-held, true-literal, false-literal, saturated-true, never-refuted}
 use Rattle.saturation.proofs.Fixed.{root-tied, literalFor}
 use Rattle.saturation.proofs.States.{not-both, firstOf, first-all, first-half, first-true, first-tied}
-use Rattle.saturation.proofs.Valuations.{Proper, valuation, valuation-satisfies, valuation-flags, valuation-root}
+use Rattle.saturation.proofs.Valuations.{valuation, valuation-satisfies, valuation-flags, valuation-root}
 
 for-value : (v : ℕ → Bool) → v 0 ≡ true → (b : Bool) → literalValue v (literalFor b) ≡ b
 for-value v top true = true-literal v top

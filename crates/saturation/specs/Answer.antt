@@ -1,11 +1,18 @@
 -- What check answers at a depth, by saturation and the trial of flags.
-use Prim.Native.Nat.{ℕ, zero, suc, _+_, _*_, _/_, _%_}
+use Prim.Native.Nat.{ℕ, zero, suc, _+_, _*_, _/_, _%_, _≤_}
 use mathlib.Core.Path.{_≡_}
 use mathlib.Core.List.{List, [], _∷_}
 use mathlib.Core.Logic.{_↔_}
+use Rattle.notation.specs.Ceilings.{flagCeiling}
 use Rattle.notation.specs.Guard.{Guard}
 use Rattle.notation.specs.Triplets.{Triplet, negation, literal, triplets}
+use Rattle.truth.specs.Computed.{FlagsWithin}
 use Rattle.saturation.specs.Saturation.{taken, Saturated, Flags}
+
+-- a guard of n flags, as reading makes it
+pub record Proper (n : ℕ) (g : Guard) : Type 0 where
+  pub few : n ≤ flagCeiling
+  pub within : FlagsWithin n g
 
 -- covered, a gap with its state, or undecided
 pub data Verdict : Type 0 where

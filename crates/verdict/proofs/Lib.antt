@@ -1,1 +1,3 @@
 pub mod Trying
+pub mod Tables
+pub mod Unique

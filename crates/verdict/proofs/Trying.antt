@@ -13,11 +13,11 @@ use Rattle.notation.specs.Ceilings.{flagCeiling}
 use Rattle.notation.specs.Triplets.{Triplet, negation}
 use Rattle.relation.specs.Relation.{Rel, IsRelation, Within}
 use Rattle.relation.specs.Least.{Least, Holds}
-use Rattle.relation.specs.Classes.{variableCeiling, Classes, entry, kept, signed}
+use Rattle.relation.specs.Classes.{Classes, entry, kept, signed}
 use Rattle.relation.specs.Contracts.{Fresh, Joined}
 use Rattle.relation.proofs.LiteralLaws.{never, signed-odd}
 use Rattle.relation.proofs.RelationLaws.{within-refl, least-below}
-use Rattle.relation.proofs.ClassLaws.{is-relation, canonical-more}
+use Rattle.relation.proofs.ClassLaws.{is-relation}
 use Rattle.steps.specs.Contracts.{inUse, tripletsAt}
 use Rattle.saturation.specs.Saturation.{taking, taken, Stable, Saturated, SaturationOf, Flags}
 use Rattle.saturation.specs.Contracts.{SaturatedTo}
@@ -210,8 +210,3 @@ module _ (numbers : List ℕ) (c n k : ℕ) where
           not-covered xs t e,
           (s, last .trial, refuted-held (Flags n) ts root k (flagsAs n s) (kept ys) (last .saturated) .0 d),
         )
-
--- the fresh relation is one of any number of variables
-pub fresh-classes : (m : ℕ) (xs : List ℕ) → m ≤ variableCeiling → Fresh xs → Classes m xs
-fresh-classes m xs h f =
-    record { long = f .classes .long; fits = h; canonical = canonical-more 0 m (entry xs) (omega arith) (f .classes .canonical) }

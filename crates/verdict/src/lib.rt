@@ -1,2 +1,4 @@
-// What check answers: covered, a gap or undecided.
+// What check answers: covered, a gap, undecided, or a refusal.
+pub mod answer;
 pub mod decide;
+pub mod verdicts;

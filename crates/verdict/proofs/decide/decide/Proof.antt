@@ -5,9 +5,9 @@ use mathlib.Core.Path.{_≡_, sym, ap, _∙_}
 use native.Mathlib.Omega.{arith}
 use Rattle.relation.specs.Classes.{signed}
 use Rattle.relation.proofs.LiteralLaws.{signed-half}
-use Rattle.relation.proofs.ClassLaws.{lowers}
+use Rattle.relation.proofs.ClassLaws.{lowers, classes-more}
 use Rattle.steps.specs.Contracts.{inUse}
-use Rattle.verdict.proofs.Trying.{Trying, fresh-classes, trying-start, trying-next, trying-fits, decided-covered, decided-gap, decided-undecided}
+use Rattle.verdict.proofs.Trying.{Trying, trying-start, trying-next, trying-fits, decided-covered, decided-gap, decided-undecided}
 use Rattle.verdict.proofs.decide.decide.Statement.{statement}
 use Rattle.verdict.proofs.decide.decide.Tie as tie
 
@@ -43,7 +43,7 @@ join-requires c κs =
     let fresh· = c .before .before .before .fresh in
     let pre· = c .before .before .before .before .before .pre in
     let turned· = c .turned in
-    (fresh-classes (inUse (args· .count)) (fresh· .result .of) (omega (arith, pre· .readable .few)) (fresh· .ensures), (half-of (args· .root) _ (turned· .result) (inUse (args· .count)) (turned· .ensures) (pre· .known), omega arith))
+    (classes-more 0 (inUse (args· .count)) (fresh· .result .of) (omega arith) (omega (arith, pre· .readable .few)) (fresh· .ensures .classes), (half-of (args· .root) _ (turned· .result) (inUse (args· .count)) (turned· .ensures) (pre· .known), omega arith))
 
 saturate-requires : tie.Need-saturate-requires Inv-loop μ-loop
 saturate-requires c κs =

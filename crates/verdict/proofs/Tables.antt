@@ -1,0 +1,176 @@
+-- At a depth not below the number of flags the first gap is the answer.
+use Prim.Native.Nat.{ℕ, zero, suc, _+_, _*_, _-_, _/_, _^_, _≤_, _<_}
+use mathlib.Core.Path.{_≡_, refl, sym, subst, ap, _∙_}
+use mathlib.Core.Bool.{Bool, true, false}
+use mathlib.Core.List.{List, [], _∷_, _++_}
+use mathlib.Core.Logic.{_⊎_, inl, inr, ⊎-elim}
+use native.Mathlib.Omega.{arith}
+use lib.ListN.{length, take, getD}
+use lib.Seq.{getD-take}
+use lib.Dec.{leb}
+use borrow.Author.Tests.{lt-leb}
+use Rattle.notation.specs.Ceilings.{flagCeiling}
+use Rattle.notation.specs.Guard.{Guard, connectives}
+use Rattle.notation.specs.Triplets.{Triplet, tripletVariable, literal, triplets, numbers}
+use Rattle.notation.specs.Shape.{Names, Shape, kindAt, yAt, zAt}
+use Rattle.relation.proofs.LiteralLaws.{either, split-eq}
+use Rattle.truth.specs.Value.{value}
+use Rattle.truth.specs.Computed.{literalValue, computed, FlagsWithin}
+use Rattle.truth.proofs.Computing.{computed-same}
+use Rattle.truth.proofs.Literals.{literal-agrees}
+use Rattle.truth.proofs.Root.{count-triplets}
+use Rattle.steps.specs.Contracts.{Readable, inUse, tripletsAt}
+use Rattle.steps.proofs.Resting.{readable-from}
+use Rattle.steps.proofs.Listing.{triplets-read}
+use Rattle.saturation.specs.Saturation.{Flags}
+use Rattle.saturation.specs.Answer.{Verdict, covered, gap, undecided, Answer}
+use Rattle.saturation.proofs.Valuations.{shaped, root-named, valuation, valuation-root}
+use Rattle.saturation.proofs.Confirmed.{full-covered, full-gap}
+use Rattle.gaps.specs.Gaps.{falseFrom}
+use Rattle.gaps.specs.Writing.{found, Writes}
+use Rattle.gaps.specs.Walking.{rootValue, Triplets}
+use Rattle.gaps.proofs.Ascending.{false-not, false-one}
+use Rattle.verdict.specs.Check.{GuardSays, verdictOf}
+use Rattle.verdict.specs.Decision.{FromGuard, Askable, Decided, FullyDecided, firstGap, meant}
+use Rattle.gaps.specs.declared.writing.Found.{Found}
+use Rattle.gaps.specs.declared.writing.Found.the-variants.{Done, More}
+use Rattle.verdict.specs.declared.decide.Decision.{Decision}
+use Rattle.verdict.specs.declared.decide.Decision.the-variants.{Covered, Gap, Undecided}
+
+-- ---- what a list of states says
+pub first-of : (v : ℕ → Bool) (lo k s : ℕ) (l : List ℕ) → falseFrom v lo k ≡ s ∷ l
+    → (lo ≤ s) × (s < lo + k) × (v s ≡ false) × ((t : ℕ) → lo ≤ t → t < s → v t ≡ true)
+unfolding falseFrom
+first-of v lo zero s l e = let z : _≡_ {A = ℕ} 0 1 = cc in absurd (omega arith)
+first-of v lo (suc k) s l e =
+    ⊎-elim
+    (λ (p : v lo ≡ true).
+    let h : (suc lo ≤ s) × (s < suc lo + k) × (v s ≡ false) × ((t : ℕ) → suc lo ≤ t → t < s → v t ≡ true) =
+    first-of v (suc lo) k s l (sym (false-not v lo k p) ∙ e) in (
+      omega arith,
+      omega arith,
+      h .2,
+      λ t a b.
+          ⊎-elim (λ (q : t ≡ lo). rw q p) (λ (q : t ≡ lo → ⊥). h .3 t (omega arith) b) (split-eq t lo),
+    ))
+    (λ (p : v lo ≡ false).
+    let here : lo ∷ falseFrom v (suc lo) k ≡ s ∷ l = sym (false-one v lo k p) ∙ e in
+    let q : lo ≡ s = cc in (omega arith, omega arith, rw q at p, λ t a b. absurd (omega arith)))
+    (either (v lo))
+
+pub none-of : (v : ℕ → Bool) (lo k : ℕ) → falseFrom v lo k ≡ [] → (t : ℕ) → lo ≤ t → t < lo + k → v t ≡ true
+none-of v lo zero e t a b = absurd (omega arith)
+none-of v lo (suc k) e t a b =
+    ⊎-elim
+    (λ (p : v lo ≡ true).
+    ⊎-elim (λ (q : t ≡ lo). rw q p)
+    (λ (q : t ≡ lo → ⊥). none-of v (suc lo) k (sym (false-not v lo k p) ∙ e) t (omega arith) (omega arith))
+    (split-eq t lo))
+    (λ (p : v lo ≡ false).
+    let here : lo ∷ falseFrom v (suc lo) k ≡ [] = sym (false-one v lo k p) ∙ e in
+    let z : _≡_ {A = ℕ} 0 1 = cc in absurd (omega arith))
+    (either (v lo))
+
+-- where there is no room, the first state is the next one
+found-none : found [] 0 ≡ Done 0
+unfolding found
+found-none = refl
+
+found-one : (s : ℕ) (l : List ℕ) → found (s ∷ l) 0 ≡ More 0 s
+unfolding found
+found-one s l = let h : leb (length (s ∷ l)) 0 ≡ false = lt-leb (length (s ∷ l)) 0 (omega arith) in rw h
+
+-- ---- what the numbers of a guard's triplets are
+module _ (xs : List ℕ) (c n root : ℕ) (g : Guard) (within : FlagsWithin n g) (count : c ≡ connectives g) (literal-of : root ≡ literal 0 g)
+    (written : take (3 * c) xs ≡ numbers (triplets 0 g)) where
+  agree : (k : ℕ) → k < 3 * c → getD xs k 0 ≡ getD (numbers (triplets 0 g)) k 0
+  agree k h = sym (getD-take (3 * c) xs k 0 h) ∙ ap (λ (ys : List ℕ). getD ys k 0) (written)
+
+  pub listed : tripletsAt xs c ≡ triplets 0 g
+  listed =
+      let e : length (triplets 0 g) ≡ c = count-triplets 0 g ∙ sym (count) in
+      rw e at (triplets-read xs (triplets 0 g) (rw e (written)))
+
+  pub shape : Shape n c xs
+  shape =
+      let s : Shape n c (numbers (triplets 0 g)) = rw (count) (shaped n g (within)) in
+      record {
+        kinds = λ j h. rw (agree (3 * j) (omega arith)) (s .kinds j h);
+        ys = λ j h. rw (agree (3 * j + 1) (omega arith)) (s .ys j h);
+        zs = λ j h. rw (agree (3 * j + 2) (omega arith)) (s .zs j h);
+      }
+
+  pub named : Names n c root
+  named = rw (literal-of, count) (root-named n g (within))
+
+  -- the triplets have the guard's value
+  pub root-is-value : n ≤ flagCeiling → (s : ℕ) → rootValue n xs c root s ≡ value n s g
+  unfolding rootValue valuation
+  root-is-value flags s =
+      literal-agrees (computed n s xs c) (computed n s (numbers (triplets 0 g)) c) root
+      (computed-same n s c (numbers (triplets 0 g)) xs agree (root / 2))
+      ∙ (rw (literal-of, count) (valuation-root n g (record { few = flags; within = within }) s))
+
+  pub at-guard : (k : ℕ) (r : Decision) → Answer (Flags n) (triplets 0 g) (literal 0 g) k n (meant r) → Decided xs c n root k r
+  at-guard k r a = rw (listed, literal-of) a
+
+  pub of-guard : (k : ℕ) (r : Decision) → Decided xs c n root k r → Answer (Flags n) (triplets 0 g) (literal 0 g) k n (meant r)
+  of-guard k r a = rw (listed, literal-of) at a
+
+module _ (xs : List ℕ) (c n root : ℕ) (from : FromGuard xs c n root) where
+  abbrev g : Guard
+  g = from .guard
+
+  its-shape : Shape n c xs
+  its-shape = shape xs c n root g (from .proper .within) (from .count) (from .literal) (from .written)
+
+  its-root : Names n c root
+  its-root = named xs c n root g (from .proper .within) (from .count) (from .literal) (from .written)
+
+  pub searchable : Triplets n xs c root
+  searchable = record { flags = from .proper .few; count = (from .few, from .long); shape = its-shape; named = its-root }
+
+  root-known : root / 2 < inUse c
+  root-known =
+      ⊎-elim (λ (p : root / 2 ≤ n). omega (arith, from .proper .few))
+      (λ (p : (tripletVariable 0 < root / 2) × (root / 2 ≤ tripletVariable c)). omega arith)
+      its-root
+
+  pub askable : Askable xs c n root
+  askable =
+      record {
+        readable = readable-from n c xs (from .proper .few) (from .few) (from .long) its-shape;
+        flags = from .proper .few;
+        known = root-known;
+      }
+
+  its-value : (s : ℕ) → rootValue n xs c root s ≡ value n s g
+  its-value = root-is-value xs c n root g (from .proper .within) (from .count) (from .literal) (from .written) (from .proper .few)
+
+  its-answer : (k : ℕ) (r : Decision) → Answer (Flags n) (triplets 0 g) (literal 0 g) k n (meant r) → Decided xs c n root k r
+  its-answer = at-guard xs c n root g (from .proper .within) (from .count) (from .literal) (from .written)
+
+  -- what is decided of the triplets is the verdict on the guard
+  pub guard-says : (k : ℕ) (r : Decision) → Decided xs c n root k r → GuardSays n g k (verdictOf r)
+  guard-says k Covered a = of-guard xs c n root g (from .proper .within) (from .count) (from .literal) (from .written) k Covered a
+  guard-says k (Gap s) a = of-guard xs c n root g (from .proper .within) (from .count) (from .literal) (from .written) k (Gap s) a
+  guard-says k Undecided a = of-guard xs c n root g (from .proper .within) (from .count) (from .literal) (from .written) k Undecided a
+
+  -- the list of all gaps, with nothing written of it, says the answer
+  fully : (l : List ℕ) → falseFrom (rootValue n xs c root) 0 (2 ^ n - 0) ≡ l → FullyDecided xs c n root (firstGap (found l 0))
+  fully [] e k h =
+      rw (found-none)
+      (its-answer k Covered
+      (full-covered (Flags n) n g (from .proper) (λ f d. d) k h
+      (λ s b. sym (its-value s) ∙ none-of (rootValue n xs c root) 0 (2 ^ n - 0) e s (omega arith) (omega arith))))
+  fully (s ∷ l) e k h =
+      let p : (0 ≤ s) × (s < 0 + (2 ^ n - 0)) × (rootValue n xs c root s ≡ false) × ((t : ℕ) → 0 ≤ t → t < s → rootValue n xs c root t ≡ true) =
+      first-of (rootValue n xs c root) 0 (2 ^ n - 0) s l e in
+      rw (found-one s l)
+      (its-answer k (Gap s)
+      (full-gap (Flags n) n g (from .proper) (λ f d. d) k h s (omega (arith, p .1)) (sym (its-value s) ∙ p .2)
+      (λ t b. sym (its-value t) ∙ p .3 t (omega arith) b)))
+
+  pub fully-found : {out after : List ℕ} (r : Found) (d : Decision) → Writes out 0 (falseFrom (rootValue n xs c root) 0 (2 ^ n - 0)) r after
+      → length out ≡ 0 → d ≡ firstGap r → FullyDecided xs c n root d
+  fully-found r d w e q = rw (q, w .answers, e) (fully (falseFrom (rootValue n xs c root) 0 (2 ^ n - 0)) refl)
