@@ -54,7 +54,7 @@ new-number c (f ∷ u) =
     (λ (e : sameCode c (f .name) ≡ false). rw e (omega (arith, new-number c u)))
     (either (sameCode c (f .name)))
 
-seen-fine : (p : ℕ) (c : Code) (u : List Flag) → (length u ≤ length (seen p c u)) × (0 < number c u) × (number c u ≤ length (seen p c u))
+pub seen-fine : (p : ℕ) (c : Code) (u : List Flag) → (length u ≤ length (seen p c u)) × (0 < number c u) × (number c u ≤ length (seen p c u))
 unfolding seen
 seen-fine p c u =
     ⊎-elim
