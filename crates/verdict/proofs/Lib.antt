@@ -1,3 +1,5 @@
 pub mod Trying
 pub mod Tables
 pub mod Unique
+pub mod Numbered
+pub mod Accepted
