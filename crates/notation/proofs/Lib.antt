@@ -7,4 +7,5 @@ pub mod Stepping
 pub mod Operands
 pub mod Joining
 pub mod Nesting
+pub mod Parsing
 pub mod Examples

@@ -40,7 +40,7 @@ pub enum Operand {
     Refused(Refusal),
 }
 
-fn passed_on(cut: Cut) -> Operand
+pub fn passed_on(cut: Cut) -> Operand
     ensures { λ r. ⌜ r ≡ passedOn cut ⌝ }
 {
     match cut {

@@ -2,6 +2,7 @@
 pub mod ceilings;
 pub mod codes;
 pub mod levels;
+pub mod parse;
 pub mod refusal;
 pub mod tokens;
 pub mod triplets;
