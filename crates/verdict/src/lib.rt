@@ -1,4 +1,5 @@
 // What check answers: covered, a gap, undecided, or a refusal.
 pub mod answer;
+pub mod check;
 pub mod decide;
 pub mod verdicts;
