@@ -11,14 +11,14 @@ returns : tie.Need-returns
 returns c =
     let args· = c .before .before .args in
     let if1· = c .if1 in
-    too-long (args· .text .now) (args· .depth) (if1· .taken)
+    too-long (args· .text .now) (args· .depth) (omega (arith, if1· .taken))
 
 returns-2 : tie.Need-returns-2
 returns-2 c =
     let args· = c .before .before .before .args in
     let if1· = c .before .if1 in
     let if2· = c .if2 in
-    too-deep (args· .text .now) (args· .depth) (if1· .left) (if2· .taken)
+    too-deep (args· .text .now) (args· .depth) (omega (arith, if1· .left)) (omega (arith, if2· .taken))
 
 slice-aggregate-parse : tie.Need-slice-aggregate-parse
 slice-aggregate-parse c = search needs
@@ -62,7 +62,7 @@ returns-3 c =
     let parse· = c .before .before .before .before .before .parse in
     let text = args· .text .now in
     let f = parsed· .given .0 .0 in
-    refused-too text (args· .depth) (if1· .left) (if2· .left) f (refusal-found text (reading text) (parse· .result) (parse· .last .1 .0) (parse· .last .1 .1 .0) (parse· .ensures) f (parsed· .given .1))
+    refused-too text (args· .depth) (omega (arith, if1· .left)) (omega (arith, if2· .left)) f (refusal-found text (reading text) (parse· .result) (parse· .last .1 .0) (parse· .last .1 .1 .0) (parse· .ensures) f (parsed· .given .1))
 
 returns-4 : tie.Need-returns-4
 returns-4 c =
@@ -78,7 +78,7 @@ returns-4 c =
     let codes = parse· .last .1 .0 in
     let out = parse· .last .1 .1 .0 in
     let x = parsed2· .given .0 .0 in
-    tables-say text (args· .depth) (if1· .left) (if2· .left) codes out x
+    tables-say text (args· .depth) (omega (arith, if1· .left)) (omega (arith, if2· .left)) codes out x
     (guard-found text (reading text) (parse· .result) codes out (parse· .ensures) x (parsed2· .given .1)) (omega (arith, triplets2· .given))
     (answer· .result) (answer· .ensures) (verdict-of· .result) (verdict-of· .ensures)
 
