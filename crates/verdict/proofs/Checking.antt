@@ -6,7 +6,9 @@ use native.Mathlib.Omega.{arith}
 use lib.ListN.{length}
 use borrow.Author.Tests.{le-leb, lt-leb}
 use Rattle.notation.specs.Ceilings.{textCeiling, connectiveCeiling}
-use Rattle.notation.specs.Reading.{Reading, refusal, reading}
+use Rattle.notation.specs.Walk.{Flag}
+use Rattle.notation.specs.Guard.{Guard}
+use Rattle.notation.specs.Reading.{Reading, refusal, guard, reading}
 use Rattle.notation.specs.declared.refusal.Refusal.{Refusal}
 use Rattle.notation.specs.declared.parse.Guard as counted
 use Rattle.notation.proofs.Serving.{Found}
@@ -64,6 +66,10 @@ module _ (text : List ℕ) (depth : ℕ) (h : length text ≤ textCeiling) (d : 
   pub refused-too : (f : Refusal) → reading text ≡ refusal (f .number) (f .place) → CheckSays text depth (Refused f)
   refused-too f e = says text depth (refusal (f .number) (f .place)) (Refused f) (asks-text text depth h d ∙ e) refl
 
+  -- what is said of its guard is said of the text
+  pub guard-too : (g : Guard) (u : List Flag) → reading text ≡ guard g u → (r : Verdict) → GuardSays (length u) g depth r → CheckSays text depth r
+  guard-too g u e r s = says text depth (guard g u) r (asks-text text depth h d ∙ e) s
+
   -- what is decided of the tables is the verdict on the text
   pub tables-say : (codes out : List ℕ) (x : counted.Guard) (f : Found text (reading text) x codes out) (l : 3 * connectiveCeiling ≤ length out)
       (r : Decision) → Decided out (x .count) (x .flags) (x .root) depth r → (v : Verdict) → v ≡ verdictOf r → CheckSays text depth v
@@ -72,5 +78,4 @@ module _ (text : List ℕ) (depth : ℕ) (h : length text ≤ textCeiling) (d : 
       let s : GuardSays (x .flags) (f .tree) depth (verdictOf r) =
       guard-says out (x .count) (x .flags) (x .root) (from-tables text codes out x f l) depth r a in
       subst (λ (w : Verdict). CheckSays text depth w) (sym e)
-      (says text depth (Reading.guard (f .tree) (f .flags)) (verdictOf r) (asks-text text depth h d ∙ f .says)
-      (subst (λ (m : ℕ). GuardSays m (f .tree) depth (verdictOf r)) n s))
+      (guard-too (f .tree) (f .flags) (f .says) (verdictOf r) (subst (λ (m : ℕ). GuardSays m (f .tree) depth (verdictOf r)) n s))

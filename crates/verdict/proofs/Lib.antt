@@ -2,3 +2,4 @@ pub mod Trying
 pub mod Tables
 pub mod Checking
 pub mod Unique
+pub mod Desk

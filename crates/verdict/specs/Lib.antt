@@ -1,2 +1,3 @@
 pub mod Decision
 pub mod Check
+pub mod Desk
