@@ -1,8 +1,8 @@
 -- The numbers of a stretch at which a function is false: a stretch in two parts, a stretch with none, and two functions that agree on it.
-use Prim.Native.Nat.{ℕ, zero, suc, _+_, _*_, _-_, _≤_, _<_}
-use mathlib.Core.Path.{_≡_, refl, sym, ap, _∙_}
-use mathlib.Core.Bool.{Bool, true, false, not}
-use mathlib.Core.List.{List, [], _∷_, _++_, append-assoc}
+use Prim.Native.Nat.{ℕ, zero, suc, _+_, _≤_, _<_}
+use mathlib.Core.Path.{_≡_, refl, sym}
+use mathlib.Core.Bool.{Bool, true, false}
+use mathlib.Core.List.{[], _∷_, _++_, append-assoc}
 use Rattle.notation.specs.Tokens.{choose}
 use native.Mathlib.Omega.{arith}
 use Rattle.gaps.specs.Gaps.{falseFrom}

@@ -1,6 +1,6 @@
 -- Bit i of a word, as a Bool: of a shifted word, of two words joined, of a word that is all ones or zero, and the lowest one that is set.
 use Prim.Native.Nat.{ℕ, zero, suc, _+_, _*_, _-_, _/_, _%_, _^_, _≤_, _<_, min, max}
-use mathlib.Core.Path.{_≡_, refl, sym, ap, ap₂, _∙_}
+use mathlib.Core.Path.{_≡_, refl, sym, _∙_}
 use mathlib.Core.Bool.{Bool, true, false, not, _&&_, _||_}
 use mathlib.Core.Logic.{_⊎_, inl, inr, ⊎-elim}
 use native.Mathlib.Omega.{arith}
@@ -8,10 +8,9 @@ use native.Mathlib.Nat.{pow-suc, zero-div, eq-or-lt-of-le, le-of-suc-le-suc}
 use lib.Dec.{T, eqb}
 use lib.Pow.{shr-shr}
 use lib.Bits.{bitAnd, bitOr, bitXor, differ, and-shr, and-step, or-shr, xor-shr, or-step, xor-step}
-use lib.Count.{trailingZeros, under}
-use borrow.Author.Tests.{eq-eqb, ne-eqb, eqb-true}
+use lib.Count.{trailingZeros}
 use Rattle.truth.specs.Value.{bit, table}
-use Rattle.notation.specs.Tokens.{same, implies}
+use Rattle.notation.specs.Tokens.{same}
 
 -- bit i of a shifted word is bit a + i of the word
 pub bit-shifted : (w a i : ℕ) → bit (w / 2 ^ a) i ≡ bit w (a + i)

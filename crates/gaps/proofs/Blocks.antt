@@ -1,14 +1,13 @@
 -- A block: the rows have the value of the triplets in every state of a stretch.
 use Prim.Native.Nat.{ℕ, zero, suc, _+_, _*_, _-_, _/_, _%_, _^_, _≤_, _<_}
-use mathlib.Core.Path.{_≡_, refl, sym, ap, ap₂, _∙_}
-use mathlib.Core.Bool.{Bool, true, false}
+use mathlib.Core.Path.{_≡_, sym, ap, ap₂, _∙_}
+use mathlib.Core.Bool.{Bool}
 use mathlib.Core.List.{List}
-use mathlib.Core.Logic.{_⊎_, inl, inr, ⊎-elim}
+use mathlib.Core.Logic.{⊎-elim}
 use native.Mathlib.Omega.{arith}
-use native.Mathlib.Nat.{div-add-mod', pow-suc}
-use lib.ListN.{length}
-use lib.Pow.{field, mod-mod-pow, low, high, pow-pos}
-use Rattle.notation.specs.Ceilings.{flagCeiling, connectiveCeiling}
+use native.Mathlib.Nat.{div-add-mod'}
+use lib.Pow.{field, mod-mod-pow, low}
+use Rattle.notation.specs.Ceilings.{flagCeiling}
 use Rattle.notation.specs.Triplets.{tripletVariable}
 use Rattle.notation.specs.Shape.{Names, Shape, kindAt, yAt, zAt}
 use Rattle.truth.specs.Value.{bit}
@@ -19,7 +18,7 @@ use Rattle.gaps.specs.declared.writing.Found.{Found}
 use Rattle.gaps.specs.Gaps.{falseFrom}
 use Rattle.gaps.specs.Rows.{inRow, Evaluated}
 use Rattle.gaps.specs.Writing.{Writes, since}
-use Rattle.gaps.specs.Walking.{rootValue, Triplets, Rows, Stretch, Walked}
+use Rattle.gaps.specs.Walking.{rootValue, Triplets, Walked}
 use Rattle.gaps.proofs.Fixes.{named-cases}
 use Rattle.gaps.proofs.Evaluating.{flags-kept}
 use Rattle.gaps.proofs.Since.{since-same}

@@ -1,8 +1,8 @@
 -- The list in a reader's words: it has every gap from the start on, nothing else, ascending, and no second answer fits.
 use Prim.Native.Nat.{ℕ, zero, suc, _+_, _-_, _^_, _≤_, _<_}
-use mathlib.Core.Path.{_≡_, refl, sym, ap, _∙_}
+use mathlib.Core.Path.{_≡_, sym, ap, _∙_}
 use mathlib.Core.Bool.{Bool, true, false, true≢false}
-use mathlib.Core.List.{List, [], _∷_, _++_}
+use mathlib.Core.List.{List, _++_}
 use mathlib.Core.Logic.{_⊎_, inl, inr, ⊎-elim, _↔_}
 use native.Mathlib.Omega.{arith}
 use native.Mathlib.Nat.{eq-or-lt-of-le}
@@ -12,14 +12,13 @@ use borrow.Author.Tests.{leb-true, leb-false}
 use lib.Seq.{getD-take, getD-append-add, getD-drop, take-all}
 use Rattle.notation.specs.Guard.{Guard}
 use Rattle.truth.specs.Value.{value}
-use Rattle.gaps.specs.declared.writing.Found.{Found}
 use Rattle.gaps.specs.declared.writing.Found.the-variants.{Done, More}
 use Rattle.gaps.specs.declared.listing.Listing.{Listing}
 use Rattle.gaps.specs.Gaps.{falseFrom, gapsFrom}
 use Rattle.gaps.specs.Writing.{found, placed}
-use Rattle.gaps.specs.Listed.{listed, filled, Lists, Among, Ascends}
+use Rattle.gaps.specs.Listed.{Lists, Among, Ascends}
 use Rattle.gaps.proofs.Ascending.{false-not, false-one}
-use Rattle.gaps.proofs.Written.{either}
+use Rattle.notation.proofs.Cases.{either}
 
 -- no second answer, nor a second slice afterwards, satisfies list's statement
 pub lists-unique : (text : List ℕ) (start : ℕ) (out : List ℕ) (a b : Listing) (o p : List ℕ) → Lists text start out a o → Lists text start out b p → (a ≡ b) × (o ≡ p)

@@ -1,23 +1,20 @@
 -- Fixing the first flag, triplet by triplet: at the start, where a literal stands for the triplet, and where it becomes one.
 use Prim.Native.Nat.{ℕ, zero, suc, _+_, _*_, _-_, _/_, _%_, _≤_, _<_}
 use mathlib.Core.Path.{_≡_, refl, sym, ap, ap₂, _∙_}
-use mathlib.Core.Bool.{Bool, true, false, not}
+use mathlib.Core.Bool.{Bool, true, not}
 use mathlib.Core.List.{List}
 use mathlib.Core.Logic.{_⊎_, inl, inr, ⊎-elim}
 use native.Mathlib.Omega.{arith}
 use native.Mathlib.Nat.{eq-or-lt-of-le}
-use lib.ListN.{length, getD}
-use lib.Dec.{eqb, leb}
-use borrow.Author.Tests.{leb-true, leb-false}
+use lib.ListN.{getD}
 use Rattle.notation.specs.Ceilings.{flagCeiling}
 use Rattle.notation.specs.Triplets.{tripletVariable, negation}
 use Rattle.notation.specs.Shape.{Names, Shape, kindAt, yAt, zAt}
 use Rattle.truth.specs.Value.{bit}
-use Rattle.truth.specs.Computed.{literalValue, gate, computed, Valued}
+use Rattle.truth.specs.Computed.{literalValue, gate, computed}
 use Rattle.truth.proofs.Literals.{parity, literal-even, literal-odd, literal-negation, literal-agrees}
 use Rattle.truth.proofs.Computing.{named-kept, valued, computed-same, triplet-made, flag-kept, true-at-start, flag-at-start}
 use Rattle.gaps.specs.Fixing.{Stands, Fixing, Fixed}
-use Rattle.gaps.proofs.Written.{either}
 
 -- what is named before triplet j + 1 was named before j, or is triplet j itself
 pub named-cases : (n j l : ℕ) → n ≤ flagCeiling → Names n (suc j) l → Names n j l ⊎ (l / 2 ≡ tripletVariable (suc j))

@@ -9,11 +9,11 @@ use native.Mathlib.Nat.{eq-or-lt-of-le}
 use lib.ListN.{length, getD, set, length-set}
 use lib.Seq.{getD-set-same, getD-set-other}
 use lib.Arith.{digits-lt}
-use lib.Dec.{T, eqb}
-use borrow.Author.Tests.{eq-eqb, ne-eqb}
+use lib.Dec.{T}
+use borrow.Author.Tests.{eq-eqb}
 use Rattle.truth.specs.Value.{bit}
 use Rattle.truth.proofs.Literals.{parity}
-use Rattle.gaps.specs.Rows.{inRow, WordOf, FlagMade, RowMade, FlagRows}
+use Rattle.gaps.specs.Rows.{inRow, WordOf, FlagMade, RowMade}
 use Rattle.gaps.proofs.Bits.{bit-shifted, bit-none, bit-ones, every, every-at}
 
 -- bit p of the numbers 0 to 63, for each p below 6

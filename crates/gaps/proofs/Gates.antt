@@ -1,15 +1,15 @@
 -- The row of a triplet: word by word, what the rows of its operands make of it, is so in every state.
 use Prim.Native.Nat.{ℕ, zero, suc, _+_, _*_, _-_, _/_, _%_, _^_, _≤_, _<_}
-use mathlib.Core.Path.{_≡_, refl, sym, ap, ap₂, _∙_}
+use mathlib.Core.Path.{_≡_, refl, sym, ap, _∙_}
 use mathlib.Core.Bool.{Bool, true, false, not, _||_, Bool·not-not}
 use mathlib.Core.List.{List}
-use mathlib.Core.Logic.{_⊎_, inl, inr, ⊎-elim}
+use mathlib.Core.Logic.{⊎-elim}
 use native.Mathlib.Omega.{arith}
 use native.Mathlib.Nat.{suc-mul, mul-le-mul-right}
-use lib.ListN.{length, getD}
+use lib.ListN.{getD}
 use lib.Arith.{digits-lt}
 use lib.Bits.{bitOr, bitXor}
-use lib.Dec.{T, eqb, leb}
+use lib.Dec.{eqb}
 use borrow.Author.Tests.{eq-eqb, ne-eqb}
 use Rattle.notation.specs.Tokens.{choose, same, implies}
 use Rattle.notation.specs.Triplets.{tripletVariable}

@@ -1,14 +1,14 @@
 -- The triplets of a guard are false exactly in its gaps.
 use Prim.Native.Nat.{ℕ, _*_, _-_, _/_, _^_, _≤_, _<_}
-use mathlib.Core.Path.{_≡_, sym, _∙_}
+use mathlib.Core.Path.{_≡_, _∙_}
 use mathlib.Core.List.{List}
 use lib.ListN.{getD}
 use Rattle.notation.specs.Ceilings.{flagCeiling}
 use Rattle.notation.specs.Guard.{Guard, connectives}
 use Rattle.notation.specs.Triplets.{literal, triplets, numbers}
-use Rattle.notation.specs.Shape.{Shape}
+use Rattle.notation.specs.Shape.{Shape, FlagsWithin}
 use Rattle.truth.specs.Value.{value}
-use Rattle.truth.specs.Computed.{literalValue, computed, FlagsWithin}
+use Rattle.truth.specs.Computed.{computed}
 use Rattle.truth.proofs.Literals.{literal-agrees}
 use Rattle.truth.proofs.Computing.{computed-same}
 use Rattle.truth.proofs.Root.{root-value}

@@ -1,9 +1,9 @@
 -- Writing a row: word by word, the states in which a literal is false.
-use Prim.Native.Nat.{ℕ, zero, suc, _+_, _*_, _-_, _/_, _%_, _^_, _≤_, _<_}
-use mathlib.Core.Path.{_≡_, refl, sym, ap, _∙_}
+use Prim.Native.Nat.{ℕ, _+_, _*_, _-_, _/_, _%_, _^_, _≤_, _<_}
+use mathlib.Core.Path.{_≡_, refl, ap, _∙_}
 use mathlib.Core.Bool.{Bool, true, false, not, _&&_, Bool·not-not, and-true, and-false}
-use mathlib.Core.List.{List, [], _++_, append-nil}
-use mathlib.Core.Logic.{_⊎_, inl, inr, ⊎-elim}
+use mathlib.Core.List.{List, _++_, append-nil}
+use mathlib.Core.Logic.{⊎-elim}
 use native.Mathlib.Omega.{arith}
 use lib.ListN.{length, take, getD}
 use lib.Pow.{pow-mono, pow-pos}
@@ -20,10 +20,11 @@ use Rattle.gaps.specs.Rows.{inRow, turned}
 use Rattle.gaps.specs.Writing.{Writes, since, wordsOf, LiveWord}
 use Rattle.gaps.proofs.Bits.{bit-and}
 use Rattle.gaps.proofs.Gates.{turned-other}
-use Rattle.gaps.proofs.Ascending.{false-same, false-none, false-parts}
+use Rattle.gaps.proofs.Ascending.{false-none, false-parts}
 use Rattle.gaps.proofs.Since.{since-same, words-few, words-exact}
 use Rattle.gaps.proofs.Words.{marked}
-use Rattle.gaps.proofs.Written.{either, found-done, writes-none, writes-then, writes-stop}
+use Rattle.notation.proofs.Cases.{either}
+use Rattle.gaps.proofs.Written.{found-done, writes-none, writes-then, writes-stop}
 
 -- a stretch of which the first j numbers are written: whatever is written of the rest is what the whole asks
 pub record Stretch (v : ℕ → Bool) (base len from : ℕ) (out₀ out : List ℕ) (j m : ℕ) : Type 0 where

@@ -1,16 +1,16 @@
 -- What is written, step by step: nothing, one state, a full slice, and one list of states after another.
-use Prim.Native.Nat.{ℕ, zero, suc, _+_, _*_, _-_, _≤_, _<_}
-use mathlib.Core.Path.{_≡_, refl, sym, ap, ap₂, _∙_}
-use mathlib.Core.Bool.{Bool, true, false}
+use Prim.Native.Nat.{ℕ, zero, suc, _+_, _≤_, _<_}
+use mathlib.Core.Path.{_≡_, refl, sym, ap, _∙_}
+use mathlib.Core.Bool.{true, false}
 use mathlib.Core.List.{List, [], _∷_, _++_, append-assoc, append-nil}
-use mathlib.Core.Logic.{_⊎_, inl, inr, ⊎-elim}
+use mathlib.Core.Logic.{⊎-elim}
 use native.Mathlib.Omega.{arith}
 use native.Mathlib.Numerals.{add-one}
-use lib.ListN.{length, take, drop, getD, set, length-set, length-append, length-take, length-drop, take-append-drop, List·getD-append}
-use lib.Seq.{drop-nil, take-suc-set, drop-set-lt, take-length, take-all, take-append-le, drop-at, take-at, getD-at, length-take-le, drop-drop, drop-append-add}
+use lib.ListN.{length, take, drop, getD, set, length-set, length-append, length-drop, take-append-drop, List·getD-append}
+use lib.Seq.{drop-nil, take-suc-set, drop-set-lt, take-length, take-all, take-append-le, take-at, getD-at, length-take-le, drop-drop, drop-append-add}
 use lib.Dec.{leb}
 use borrow.Author.Tests.{le-leb, lt-leb, leb-true, leb-false}
-use Rattle.notation.specs.Tokens.{choose}
+use Rattle.notation.proofs.Cases.{either}
 use Rattle.gaps.specs.declared.writing.Found.{Found}
 use Rattle.gaps.specs.declared.writing.Found.the-variants.{Done, More}
 use Rattle.gaps.specs.Writing.{found, placed, Writes}
@@ -37,10 +37,6 @@ module _ (out : List ℕ) where
   placed-more : (l : List ℕ) → length out ≤ length l → placed l out ≡ take (length out) l
   unfolding placed
   placed-more l h = rw (drop-past (length l) out h) (append-nil (take (length out) l))
-
-pub either : (b : Bool) → (b ≡ true) ⊎ (b ≡ false)
-either true = inl refl
-either false = inr refl
 
 -- all were written: there was room for them
 pub found-done : (out l : List ℕ) (k : ℕ) → Done k ≡ found l (length out) → (length l ≤ length out) × (k ≡ length l)

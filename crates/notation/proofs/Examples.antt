@@ -1,11 +1,11 @@
 -- The outline's example of triplets, by computation: `A>B>C` groups to the right.
 use Prim.Native.Nat.{ℕ}
 use mathlib.Core.Path.{_≡_, refl}
-use mathlib.Core.Bool.{Bool, true, false}
+use mathlib.Core.Bool.{true}
 use mathlib.Core.List.{List, [], _∷_}
-use Rattle.notation.specs.Tokens.{Sign, same, implies, or, and, among, codeByte, codeRun, coded, hashed, marked, tokenOf, further, tokensFrom, tokens}
+use Rattle.notation.specs.Tokens.{same, or, and, among, codeByte, codeRun, coded, hashed, marked, tokenOf, further, tokensFrom, tokens}
 use Rattle.notation.specs.Walk.{sameCode, known, seen, within, walk}
-use Rattle.notation.specs.Guard.{Guard, flag, truth, negated, joined, connectives}
+use Rattle.notation.specs.Guard.{flag, truth, negated, joined, connectives}
 use Rattle.notation.specs.Grammar.{follow, number, sameSign, isSign, signNext, past, toTheLeft, toTheRight, leftLevel, rightLevel, andOf, orOf, impliesOf, sameOf, closed, operandOf, inBrackets, treeOf, tree}
 use Rattle.notation.specs.Triplets.{negation, tripletOf, literalOf, literal, triplets, numbers}
 use Rattle.notation.specs.Reading.{Reading, refusal, guard, judged, reading}

@@ -1,19 +1,19 @@
 -- A chain of operands as the reader holds it: laws that join what the levels and the signs between them promise.
-use Prim.Native.Nat.{ℕ, zero, suc, _+_, _-_, _*_, _≤_, _<_}
+use Prim.Native.Nat.{ℕ, _+_, _*_, _<_}
 use native.Mathlib.Omega.{arith}
-use mathlib.Core.Path.{_≡_, refl, sym, ap, subst, _∙_}
+use mathlib.Core.Path.{_≡_, sym, ap, subst, _∙_}
 use mathlib.Core.Bool.{Bool, true, false}
 use mathlib.Core.List.{List}
 use lib.ListN.{length}
 use Rattle.notation.specs.Ceilings.{connectiveCeiling}
 use Rattle.notation.specs.Tokens.{Tokens, Sign}
-use Rattle.notation.specs.Walk.{Flag, refused, walk, operand, after}
+use Rattle.notation.specs.Walk.{Flag, refused, walk, operand}
 use Rattle.notation.specs.Guard.{Guard, joined}
 use Rattle.notation.specs.Grammar.{Level, past, signNext, leftLevel, toTheRight}
 use Rattle.notation.specs.Triplets.{tripletOf}
 use Rattle.notation.specs.Cut.{ahead}
 use Rattle.notation.specs.Codes.{flagsIn, InText}
-use Rattle.notation.specs.Levels.{plain, binding, kindIs, tripletAt, joinedPart, Standing, Advanced, PastSignSays, Reads, Writes, FoundPart, LevelSays}
+use Rattle.notation.specs.Levels.{plain, binding, kindIs, tripletAt, joinedPart, Standing, PastSignSays, Reads, Writes, FoundPart, LevelSays}
 use Rattle.notation.specs.declared.refusal.Refusal.{Refusal}
 use Rattle.notation.specs.declared.levels.At.{At}
 use Rattle.notation.specs.declared.levels.Part.{Part}

@@ -1,24 +1,21 @@
 -- How the levels of the notation build on each other: laws over any next level, for the tree and for the walk.
-use Prim.Native.Nat.{ℕ, zero, suc, _+_, _-_, _*_, _/_, _%_, _≤_, _<_}
+use Prim.Native.Nat.{ℕ, zero, suc, _+_, _-_, _≤_, _<_}
 use native.Mathlib.Numerals.{add-one}
 use native.Mathlib.Omega.{arith}
 use mathlib.Core.Path.{_≡_, refl, sym, ap, _∙_}
 use mathlib.Core.Bool.{Bool, true, false, true≢false}
-use mathlib.Core.List.{List, [], _∷_, _++_}
-use lib.ListN.{length, getD}
-use mathlib.Core.Logic.{_⊎_, ⊎-elim}
+use mathlib.Core.List.{List, [], _∷_}
+use lib.ListN.{getD}
+use mathlib.Core.Logic.{⊎-elim}
 use native.Mathlib.Nat.{eq-or-lt-of-le}
-use borrow.Author.Tests.{le-leb, lt-leb}
-use Rattle.notation.specs.Ceilings.{connectiveCeiling, flagCeiling, bracketCeiling}
-use Rattle.notation.specs.Tokens.{Tokens, Token, Sign, same, implies, or, and, stray, long, code, hash, bang, sign, opening, closing, end, at}
-use Rattle.notation.specs.Walk.{Flag, Outcome, refused, walk, operand, after, within}
-use Rattle.notation.specs.Guard.{Guard, joined, negated, flag, truth, connectives}
-use Rattle.notation.specs.Grammar.{Level, Parsed, none, found, follow, sameSign, isSign, signNext, past, toTheLeft, toTheRight, leftLevel, rightLevel}
+use borrow.Author.Tests.{le-leb}
+use Rattle.notation.specs.Ceilings.{connectiveCeiling}
+use Rattle.notation.specs.Tokens.{Tokens, Sign, same, implies, or, and, stray, long, code, hash, bang, sign, opening, closing, end, at}
+use Rattle.notation.specs.Walk.{Flag, walk, operand, after, within}
+use Rattle.notation.specs.Guard.{Guard, joined, connectives}
+use Rattle.notation.specs.Grammar.{Level, Parsed, found, follow, isSign, signNext, past, toTheLeft, toTheRight, leftLevel}
 use Rattle.notation.specs.Levels.{binding, plain, Reads}
-
-connectives-joined : (s : Sign) (g h : Guard) → connectives (joined s g h) ≡ connectives g + connectives h + 1
-unfolding connectives
-connectives-joined s g h = refl
+use Rattle.notation.proofs.Writing.{connectives-joined}
 
 -- after an operand the walk passes a sign that is within the ceiling
 pub past-sign : (s : Sign) (d : ℕ) (u : List Flag) (m : ℕ) (ts : Tokens) → signNext s ts ≡ true → m < connectiveCeiling →

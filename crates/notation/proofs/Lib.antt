@@ -1,3 +1,8 @@
+pub mod Cases
+pub mod EachTriplet
+pub mod Shaped
+pub mod Numbered
+pub mod Accepted
 pub mod Table
 pub mod Cutting
 pub mod Coding

@@ -3,19 +3,19 @@ use Prim.Native.Nat.{ℕ, zero, suc, _+_, _-_, _*_, _/_, _%_, _≤_, _<_}
 use native.Mathlib.Numerals.{add-one}
 use native.Mathlib.Omega.{arith}
 use mathlib.Core.Path.{_≡_, refl, sym, ap, subst, _∙_}
-use mathlib.Core.Bool.{Bool, true, false, true≢false}
-use mathlib.Core.List.{List, [], _∷_, _++_}
-use lib.ListN.{length, take}
+use mathlib.Core.Bool.{true, false, true≢false}
+use mathlib.Core.List.{List, _++_}
+use lib.ListN.{take}
 use borrow.Author.Tests.{le-leb, lt-leb}
-use Rattle.notation.specs.Ceilings.{connectiveCeiling, flagCeiling, bracketCeiling}
-use Rattle.notation.specs.Tokens.{Tokens, Sign, same, implies, or, and, opening, bang, at as token-at}
+use Rattle.notation.specs.Ceilings.{connectiveCeiling, bracketCeiling}
+use Rattle.notation.specs.Tokens.{Tokens, Sign, opening, bang, at as token-at}
 use Rattle.notation.specs.Walk.{Flag, refused, walk, operand, after, within}
 use Rattle.notation.specs.Guard.{Guard, negated, connectives}
 use Rattle.notation.specs.Grammar.{Level, Parsed, found, follow, past, closed, operandOf, inBrackets, sameOf, toTheRight, rightLevel}
 use Rattle.notation.specs.Triplets.{Triplet, literal, triplets, numbers, negation}
 use Rattle.notation.specs.Cut.{aheadAs, ahead, ends}
 use Rattle.notation.specs.Codes.{flagsIn, InText}
-use Rattle.notation.specs.Levels.{plain, binding, bangs, turned, literalCeiling, TokenFits, Standing, Advanced, AdvancedSays, ClosedSays, Reads, Writes, FoundPart, LevelSays, operandsAt}
+use Rattle.notation.specs.Levels.{plain, bangs, turned, literalCeiling, TokenFits, Standing, AdvancedSays, ClosedSays, FoundPart, LevelSays, operandsAt}
 use Rattle.notation.specs.declared.refusal.Refusal.{Refusal}
 use Rattle.notation.specs.declared.tokens.Kind.{Kind}
 use Rattle.notation.specs.declared.tokens.Kind.the-variants as kind

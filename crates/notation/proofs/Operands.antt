@@ -1,7 +1,5 @@
 -- Operands: a code, `#0` or `#1`, brackets and `!`, as the grammar, the walk and the triplets have them.
-use Prim.Native.Nat.{ℕ, zero, suc, _+_, _-_, _*_, _/_, _%_, _≤_, _<_}
-use native.Mathlib.Nat.{add-zero, le-trans}
-use native.Mathlib.Numerals.{add-one}
+use Prim.Native.Nat.{ℕ, suc, _+_, _*_, _≤_, _<_}
 use native.Mathlib.Omega.{arith}
 use mathlib.Core.Path.{_≡_, refl, sym, ap, subst, _∙_}
 use mathlib.Core.Bool.{Bool, true, false, true≢false}
@@ -9,16 +7,15 @@ use mathlib.Core.List.{List, [], _∷_, _++_, append-nil}
 use lib.ListN.{length, take, length-append, length-set}
 use lib.Dec.{leb}
 use borrow.Author.Tests.{le-leb, lt-leb}
-use Rattle.notation.specs.Ceilings.{connectiveCeiling, flagCeiling, bracketCeiling}
-use Rattle.notation.specs.Tokens.{Tokens, Token, Sign, same, implies, or, and, stray, long, code, hash, bang, sign, opening, closing, end, at as token-at, choose}
-use Rattle.notation.specs.Walk.{Flag, Outcome, refused, walk, operand, after, within, known, seen}
-use Rattle.notation.specs.Guard.{Guard, flag, truth, negated, connectives}
-use Rattle.notation.specs.Grammar.{Level, Parsed, found, follow, number, past, closed, operandOf, signNext}
-use Rattle.notation.specs.Triplets.{literal, triplets, numbers, negation, tripletVariable}
-use Rattle.notation.specs.Cut.{part, tokensAt, aheadAs, ahead, ends, FaultyHere}
+use Rattle.notation.specs.Ceilings.{flagCeiling}
+use Rattle.notation.specs.Tokens.{Tokens, Sign, same, implies, or, and, code, hash, at as token-at, choose}
+use Rattle.notation.specs.Walk.{Flag, refused, walk, operand, after, within, known, seen}
+use Rattle.notation.specs.Guard.{Guard, flag, truth, connectives}
+use Rattle.notation.specs.Grammar.{Level, found, number, past, closed, operandOf}
+use Rattle.notation.specs.Triplets.{literal, triplets, numbers}
+use Rattle.notation.specs.Cut.{part, aheadAs, ahead, ends}
 use Rattle.notation.specs.Codes.{flagsIn, flagAt, InText, PlaceOf, entered}
-use Rattle.notation.specs.Levels.{plain, binding, joins, bangs, closes, turned, literalCeiling, TokenFits, Standing, Advanced, AdvancedSays, ClosedSays, AtomSays, Reads, Writes, FoundPart, LevelSays}
-use Rattle.notation.specs.declared.refusal.Refusal.{Refusal}
+use Rattle.notation.specs.Levels.{binding, joins, closes, literalCeiling, Standing, AdvancedSays, ClosedSays, AtomSays}
 use Rattle.notation.specs.declared.tokens.Kind.{Kind}
 use Rattle.notation.specs.declared.tokens.Kind.the-variants as kind
 use Rattle.notation.specs.declared.levels.At.{At}
@@ -26,7 +23,6 @@ use Rattle.notation.specs.declared.levels.Part.{Part}
 use Rattle.notation.specs.declared.levels.Operand.{Operand}
 use Rattle.notation.specs.declared.levels.Operand.the-variants as answer
 use Rattle.notation.proofs.Coding.{known-number, flags-length, flags-entered, in-text-entered}
-use Rattle.notation.proofs.Stepping.{past-ahead}
 
 -- no sign binds tighter than `&`
 pub no-tighter : (s : Sign) → binding s ≤ 0 → ⊥

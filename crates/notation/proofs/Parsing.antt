@@ -1,22 +1,22 @@
 -- From the levels to the whole text: when a text is a guard, and when it is refused.
-use Prim.Native.Nat.{ℕ, zero, suc, _+_, _-_, _*_, _≤_, _<_}
+use Prim.Native.Nat.{ℕ, _*_, _≤_, _<_}
 use native.Mathlib.Omega.{arith}
 use mathlib.Core.Path.{_≡_, refl, sym, ap, subst, _∙_}
 use mathlib.Core.Bool.{Bool, true, false, true≢false}
-use mathlib.Core.List.{List, [], _∷_, _++_}
+use mathlib.Core.List.{List, []}
 use lib.ListN.{length, take}
 use borrow.Author.Tests.{le-leb, lt-leb}
 use Rattle.notation.specs.Ceilings.{textCeiling, flagCeiling, connectiveCeiling}
 use Rattle.notation.specs.Tokens.{Tokens, tokens, choose}
-use Rattle.notation.specs.Walk.{Flag, Outcome, refused, accepted, walk, operand, after}
+use Rattle.notation.specs.Walk.{Flag, refused, accepted, walk, operand, after}
 use Rattle.notation.specs.Guard.{Guard, connectives}
-use Rattle.notation.specs.Grammar.{found, sameOf, treeOf, tree}
-use Rattle.notation.specs.Triplets.{literal, triplets, numbers}
+use Rattle.notation.specs.Grammar.{sameOf, treeOf, tree}
+use Rattle.notation.specs.Triplets.{literal}
 use Rattle.notation.specs.Reading.{Reading, refusal, guard, judged, reading}
 use Rattle.notation.specs.Cut.{tokensAt, aheadAs, ahead, ends, NextToken, FaultyHere}
-use Rattle.notation.specs.Codes.{flagsIn, InText}
-use Rattle.notation.specs.Levels.{plain, joins, operandsAt, TokenFits, Standing, LevelAsks, FoundPart}
-use Rattle.notation.specs.Service.{refusedWith, guardWith, endedAs, ParseSays, GuardRead}
+use Rattle.notation.specs.Codes.{flagsIn}
+use Rattle.notation.specs.Levels.{plain, joins, operandsAt, LevelAsks, FoundPart}
+use Rattle.notation.specs.Service.{refusedWith, guardWith, endedAs, ParseSays}
 use Rattle.notation.specs.declared.refusal.Refusal.{Refusal}
 use Rattle.notation.specs.declared.tokens.Kind.{Kind}
 use Rattle.notation.specs.declared.tokens.Kind.the-variants as kind

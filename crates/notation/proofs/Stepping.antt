@@ -1,25 +1,22 @@
 -- How the reader goes from token to token: laws by the kind of the token ahead.
-use Prim.Native.Nat.{ℕ, zero, suc, _+_, _-_, _*_, _≤_, _<_}
+use Prim.Native.Nat.{ℕ, suc, _+_, _≤_, _<_}
 use native.Mathlib.Numerals.{add-one}
 use native.Mathlib.Omega.{arith}
 use mathlib.Core.Path.{_≡_, refl, sym, ap, _∙_}
-use mathlib.Core.Bool.{Bool, true, false, true≢false}
-use mathlib.Core.List.{List, [], _∷_, _++_}
-use lib.ListN.{length}
+use mathlib.Core.Bool.{true, false, true≢false}
+use mathlib.Core.List.{List}
 use lib.Dec.{eqb}
 use borrow.Author.Tests.{le-leb, lt-leb}
-use Rattle.notation.specs.Ceilings.{connectiveCeiling, flagCeiling, bracketCeiling}
-use Rattle.notation.specs.Tokens.{Tokens, Token, Sign, same, implies, or, and, stray, long, code, hash, bang, sign, opening, closing, end, at}
-use Rattle.notation.specs.Walk.{Flag, Outcome, refused, walk, operand, after, within}
+use Rattle.notation.specs.Ceilings.{connectiveCeiling}
+use Rattle.notation.specs.Tokens.{Token, Sign, same, implies, or, and, at}
+use Rattle.notation.specs.Walk.{Flag, refused, walk, operand, after, within}
 use Rattle.notation.specs.Grammar.{sameSign, isSign, signNext, past}
-use Rattle.notation.specs.Cut.{tokensAt, aheadAs, ahead, ends, signOf, NextToken, FaultyHere, CutSays}
-use Rattle.notation.specs.Levels.{binding, kindIs, joins, TokenFits, Advanced, AdvancedSays, PastSignSays, passedOn}
+use Rattle.notation.specs.Cut.{tokensAt, aheadAs, ends, signOf, NextToken, FaultyHere}
+use Rattle.notation.specs.Levels.{binding, kindIs, joins, TokenFits, AdvancedSays, PastSignSays}
 use Rattle.notation.specs.declared.refusal.Refusal.{Refusal}
 use Rattle.notation.specs.declared.tokens.Kind.{Kind}
 use Rattle.notation.specs.declared.tokens.Kind.the-variants as kind
 use Rattle.notation.specs.declared.tokens.Token as token
-use Rattle.notation.specs.declared.tokens.Cut.{Cut}
-use Rattle.notation.specs.declared.tokens.Cut.the-variants as cut
 use Rattle.notation.specs.declared.levels.At.{At}
 use Rattle.notation.specs.declared.levels.Part.{Part}
 use Rattle.notation.specs.declared.levels.Operand.{Operand}

@@ -1,17 +1,16 @@
 -- What has been written: triplets as numbers at the front of a list.
-use Prim.Native.Nat.{ℕ, zero, suc, _+_, _-_, _*_, _/_, _%_, _≤_, _<_}
+use Prim.Native.Nat.{ℕ, _+_, _*_, _≤_, _<_}
 use native.Mathlib.Omega.{arith}
-use mathlib.Core.Path.{_≡_, refl, sym, ap, _∙_}
-use mathlib.Core.Bool.{Bool, true, false}
+use mathlib.Core.Path.{_≡_, refl, ap, _∙_}
 use mathlib.Core.List.{List, [], _∷_, _++_, append-assoc}
 use native.Mathlib.Numerals.{add-one, add-two}
 use Rattle.notation.specs.Ceilings.{connectiveCeiling}
-use lib.ListN.{length-append, length, take, drop, set, length-set}
-use lib.Seq.{take-append-le, take-at, length-take-le, sets, sets-eq}
+use lib.ListN.{length-append, length, take, drop}
+use lib.Seq.{take-at, length-take-le, sets-eq}
 use Rattle.notation.specs.Tokens.{Sign, same, implies, or, and}
-use Rattle.notation.specs.Guard.{Guard, joined, negated, flag, truth, connectives}
-use Rattle.notation.specs.Triplets.{Triplet, tripletOf, literalOf, literal, triplets, numbers, negation, tripletVariable}
-use Rattle.notation.specs.Levels.{Writes, putAt, tripletAt, turned, literalCeiling}
+use Rattle.notation.specs.Guard.{Guard, joined, connectives}
+use Rattle.notation.specs.Triplets.{Triplet, tripletOf, literalOf, literal, triplets, numbers, tripletVariable}
+use Rattle.notation.specs.Levels.{Writes, putAt, tripletAt, literalCeiling}
 
 -- a triplet's kind, y and z depend on the sign, and y and z on one side each
 pub parts : (s : Sign) (out : List ℕ) (c l r k y z : ℕ) → k ≡ (tripletOf s 0 0) .kind → y ≡ (tripletOf s l 0) .y → z ≡ (tripletOf s 0 r) .z →
@@ -40,7 +39,7 @@ take-put out c t h =
     (rw (add-one, add-two) (sets-eq three out (3 * c) (omega arith)))
     ∙ take-at (take (3 * c) out ++ three) (drop (3 * c + 3) out) (3 * (c + 1)) long
 
-connectives-joined : (s : Sign) (g h : Guard) → connectives (joined s g h) ≡ connectives g + connectives h + 1
+pub connectives-joined : (s : Sign) (g h : Guard) → connectives (joined s g h) ≡ connectives g + connectives h + 1
 unfolding connectives
 connectives-joined s g h = refl
 

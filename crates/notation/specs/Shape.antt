@@ -3,6 +3,7 @@ use Prim.Native.Nat.{ℕ, _+_, _*_, _/_, _≤_, _<_}
 use mathlib.Core.Logic.{_⊎_}
 use mathlib.Core.List.{List, [], _∷_}
 use lib.ListN.{length, getD}
+use Rattle.notation.specs.Guard.{Guard, flag, truth, negated, joined}
 use Rattle.notation.specs.Triplets.{Triplet, tripletVariable}
 
 -- the literal l is, with either sign, true, a flag of 1 to n, or one of the first c triplets
@@ -24,3 +25,10 @@ pub record Shape (n c : ℕ) (xs : List ℕ) : Type 0 where
   pub kinds : (j : ℕ) → j < c → kindAt xs j ≤ 1
   pub ys : (j : ℕ) → j < c → Names n j (yAt xs j)
   pub zs : (j : ℕ) → j < c → Names n j (zAt xs j)
+
+-- every flag of a guard is one of 1 to n
+abbrev pub FlagsWithin : ℕ → Guard → Type 0
+FlagsWithin n (flag i) = (0 < i) × (i ≤ n)
+FlagsWithin n (truth b) = Unit {0}
+FlagsWithin n (negated g) = FlagsWithin n g
+FlagsWithin n (joined c g h) = FlagsWithin n g × FlagsWithin n h

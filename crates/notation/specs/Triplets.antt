@@ -53,3 +53,8 @@ triplets c (joined s g h) =
 unfoldable pub numbers : List Triplet → List ℕ
 numbers [] = []
 numbers (t ∷ ts) = t .kind ∷ t .y ∷ t .z ∷ numbers ts
+
+-- P holds of each triplet with its own literal, where c triplets stand before the list
+abbrev pub Each : (Triplet → ℕ → Type 0) → ℕ → List Triplet → Type 0
+Each P c [] = Unit {0}
+Each P c (t ∷ ts) = P t (2 * tripletVariable (c + 1)) × Each P (c + 1) ts

@@ -15,7 +15,9 @@ use Rattle.relation.specs.Relation.{Rel, IsRelation}
 use Rattle.relation.specs.Classes.{variableCeiling, signed, entry, lead, relation, contradictory, Canonical, Classes}
 use Rattle.relation.specs.Contracts.{Lower, Alike, tied}
 use Rattle.relation.proofs.RelationLaws.{bool-eq}
-use Rattle.relation.proofs.LiteralLaws.{either, split-eq, lt-or-ge, never, sign-cases, signed-even, signed-odd, signed-half, signed-sign, literal-eq, negation-half, negation-sign, negation-differs}
+use Rattle.notation.proofs.Cases.{either, split-eq, lt-or-ge, never}
+use Rattle.notation.proofs.Shaped.{negation-half}
+use Rattle.relation.proofs.LiteralLaws.{sign-cases, signed-even, signed-odd, signed-half, signed-sign, literal-eq, negation-sign, negation-differs}
 
 -- within an array it does not matter what is given past its end
 pub entry-at : (xs : List ℕ) (v d : ℕ) → v < length xs → getD xs v d ≡ entry xs v

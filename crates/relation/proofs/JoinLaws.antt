@@ -12,7 +12,8 @@ use Rattle.relation.specs.Relation.{Rel, IsRelation, Within}
 use Rattle.relation.specs.Least.{Least, Holds}
 use Rattle.relation.specs.Classes.{variableCeiling, signed, entry, lead, relation, contradictory, moved, kept, Canonical, Classes}
 use Rattle.relation.specs.Contracts.{Leaders, Joined}
-use Rattle.relation.proofs.LiteralLaws.{split-eq, sign-add, signed-half, signed-sign, literal-eq, same-variable}
+use Rattle.notation.proofs.Cases.{split-eq}
+use Rattle.relation.proofs.LiteralLaws.{sign-add, signed-half, signed-sign, literal-eq, same-variable}
 use Rattle.relation.proofs.RelationLaws.{signed-both, least-none, least-across, least-turned}
 use Rattle.relation.proofs.ClassLaws.{lead-half, lead-sign, lead-is, relation-all, same-leads, leads-same, is-relation, true-leads, contradictory-at, leader-stands, lead-twice, lead-lower, leads-to, stored-other}
 

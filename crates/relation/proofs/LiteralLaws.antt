@@ -1,27 +1,11 @@
 -- Literals as numbers: a variable and a sign determine a literal, and negating changes the sign alone.
-use Prim.Native.Nat.{ℕ, _+_, _/_, _%_, _<_, _≤_}
-use mathlib.Core.Path.{_≡_, refl}
+use Prim.Native.Nat.{ℕ, _+_, _/_, _%_}
+use mathlib.Core.Path.{_≡_}
 use mathlib.Core.Logic.{_⊎_, inl, inr, ⊎-elim}
-use mathlib.Core.Bool.{Bool, true, false}
 use native.Mathlib.Omega.{arith}
-use lib.Dec.{eqb, ltb}
-use borrow.Author.Tests.{eqb-true, eqb-false, ltb-true, ltb-false}
 use Rattle.notation.specs.Triplets.{negation}
+use Rattle.notation.proofs.Cases.{split-eq}
 use Rattle.relation.specs.Classes.{signed}
-
-pub either : (b : Bool) → (b ≡ true) ⊎ (b ≡ false)
-either true = inl refl
-either false = inr refl
-
-pub split-eq : (a b : ℕ) → (a ≡ b) ⊎ (a ≡ b → ⊥)
-split-eq a b = ⊎-elim (λ p. inl (eqb-true a b p)) (λ p. inr (eqb-false a b p)) (either (eqb a b))
-
-pub lt-or-ge : (a b : ℕ) → (a < b) ⊎ (b ≤ a)
-lt-or-ge a b = ⊎-elim (λ p. inl (ltb-true a b p)) (λ p. inr (ltb-false a b p)) (either (ltb a b))
-
--- no truth value is both
-pub never : (b : Bool) → b ≡ true → b ≡ false → ⊥
-never b p q = let z : _≡_ {A = ℕ} 0 1 = cc in omega arith
 
 pub signed-half : (w s : ℕ) → signed w s / 2 ≡ w / 2
 unfolding signed
@@ -47,10 +31,6 @@ signed-even w s e = omega arith
 pub signed-odd : (w s : ℕ) → s % 2 ≡ 1 → signed w s ≡ negation w
 unfolding signed negation
 signed-odd w s e = omega arith
-
-pub negation-half : (l : ℕ) → negation l / 2 ≡ l / 2
-unfolding negation
-negation-half l = omega arith
 
 pub negation-sign : (l : ℕ) → negation l % 2 ≡ (l + 1) % 2
 unfolding negation

@@ -11,7 +11,7 @@ use Rattle.notation.specs.Tokens.{choose}
 use Rattle.relation.specs.Relation.{Within}
 use Rattle.relation.specs.Least.{Least, Holds}
 use Rattle.relation.specs.Classes.{lead, relation, contradictory, Canonical, own, rank}
-use Rattle.relation.proofs.LiteralLaws.{either, split-eq, lt-or-ge, never}
+use Rattle.notation.proofs.Cases.{either, split-eq, lt-or-ge, never}
 use Rattle.relation.proofs.RelationLaws.{across}
 use Rattle.relation.proofs.ClassLaws.{lead-half, lead-is, lead-variable, relation-all, same-leads, leads-same, is-relation, leader-stands, leads-to}
 

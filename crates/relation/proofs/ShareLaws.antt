@@ -12,7 +12,8 @@ use Rattle.notation.specs.Tokens.{choose}
 use Rattle.relation.specs.Relation.{Rel}
 use Rattle.relation.specs.Classes.{variableCeiling, signed, entry, lead, relation, contradictory, Canonical, Classes}
 use Rattle.relation.specs.Contracts.{Lower, SharedLeader, Shared, common}
-use Rattle.relation.proofs.LiteralLaws.{either, split-eq, lt-or-ge, never, sign-add, signed-half, signed-sign, literal-eq}
+use Rattle.notation.proofs.Cases.{either, split-eq, lt-or-ge, never}
+use Rattle.relation.proofs.LiteralLaws.{sign-add, signed-half, signed-sign, literal-eq}
 use Rattle.relation.proofs.RelationLaws.{bool-eq}
 use Rattle.relation.proofs.ClassLaws.{entry-at, lead-half, lead-sign, lead-variable, lead-signed, same-leads, leads-same, contradictory-at}
 

@@ -10,12 +10,12 @@ use lib.Dec.{eqb}
 use lib.ListN.{length}
 use borrow.Author.Tests.{eqb-true, eqb-false}
 use Rattle.notation.specs.Tokens.{choose}
-use Rattle.notation.specs.Triplets.{Triplet, tripletVariable}
+use Rattle.notation.specs.Triplets.{Triplet, tripletVariable, Each}
 use Rattle.relation.specs.Relation.{Rel, IsRelation, Within}
 use Rattle.relation.proofs.LiteralLaws.{same-variable}
 use Rattle.steps.specs.Step.{literalAt}
 use Rattle.steps.specs.Table.{xNamed, yNamed, zNamed, patternOf, contradictory, entry, NamesHold}
-use Rattle.steps.specs.Rest.{Each, HoldsStepOn, NoStepEnlarges}
+use Rattle.steps.specs.Rest.{HoldsStepOn, NoStepEnlarges}
 use Rattle.steps.proofs.Entries.{and-left, and-right}
 use Rattle.steps.proofs.Sides.{Closed, held, held-closed}
 use Rattle.steps.proofs.Strongest.{x-holds, y-holds, z-holds}

@@ -1,24 +1,21 @@
 -- Fixed flags decide every triplet: at rest with each flag tied, each triplet's variable is tied to its computed value.
 use Prim.Native.Nat.{ℕ, zero, suc, _+_, _*_, _-_, _/_, _%_, _^_, _≤_, _<_}
-use mathlib.Core.Path.{_≡_, sym, ap, _∙_, subst}
+use mathlib.Core.Path.{_≡_, sym, _∙_, subst}
 use mathlib.Core.Bool.{Bool, true, false, not, false≢true}
 use mathlib.Core.List.{List}
 use mathlib.Core.Logic.{_⊎_, ⊎-elim}
 use native.Mathlib.Omega.{arith}
-use native.Mathlib.Nat.{div-one}
-use lib.Dec.{eqb}
-use lib.Pow.{shr-shr}
 use Rattle.notation.specs.Ceilings.{flagCeiling}
 use Rattle.notation.specs.Triplets.{tripletVariable, negation}
 use Rattle.notation.specs.Shape.{Names, Shape, kindAt, yAt, zAt}
 use Rattle.relation.specs.Relation.{Rel, IsRelation}
-use Rattle.relation.proofs.LiteralLaws.{either, split-eq}
+use Rattle.notation.proofs.Cases.{either, split-eq}
 use Rattle.truth.specs.Value.{bit}
 use Rattle.truth.specs.Computed.{literalValue, computed, Valued}
 use Rattle.truth.proofs.Literals.{literal-even, literal-odd, parity}
 use Rattle.truth.proofs.Computing.{valued}
 use Rattle.steps.specs.Rest.{HoldsStepOn}
-use Rattle.steps.proofs.RestLaws.{tripletAt}
+use Rattle.notation.proofs.EachTriplet.{tripletAt}
 use Rattle.saturation.proofs.States.{BitsOf, state-of}
 use Rattle.saturation.proofs.Fixed.{literalFor, step-ties, negation-ties}
 use Rattle.saturation.proofs.Valuations.{gate-connected}

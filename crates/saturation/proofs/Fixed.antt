@@ -6,14 +6,14 @@ use mathlib.Core.List.{List, [], _∷_, _++_}
 use native.Mathlib.Omega.{arith}
 use Rattle.notation.specs.Tokens.{Sign, same, implies, or, and}
 use Rattle.notation.specs.Guard.{Guard, flag, truth, negated, joined, connectives}
-use Rattle.notation.specs.Triplets.{Triplet, tripletVariable, negation, tripletOf, literalOf, literal, triplets}
+use Rattle.notation.specs.Triplets.{Triplet, tripletVariable, negation, tripletOf, literalOf, literal, triplets, Each}
 use Rattle.relation.specs.Relation.{Rel, IsRelation}
 use Rattle.truth.specs.Value.{bit, table, value}
-use Rattle.truth.specs.Computed.{FlagsWithin}
-use Rattle.truth.proofs.Root.{count-triplets}
+use Rattle.notation.specs.Shape.{FlagsWithin}
+use Rattle.notation.proofs.Shaped.{count-triplets}
 use Rattle.steps.specs.Step.{Side, never, always, own-x, own-y, own-z, Values, literalAt, truthAt, connected}
-use Rattle.steps.specs.Rest.{Each, HoldsStepOn}
-use Rattle.steps.proofs.RestLaws.{each-left, each-right}
+use Rattle.steps.specs.Rest.{HoldsStepOn}
+use Rattle.notation.proofs.EachTriplet.{each-left, each-right}
 
 -- the literal of a truth value
 abbrev pub literalFor : Bool → ℕ

@@ -1,9 +1,9 @@
 -- The run of splits and rests: between the start and every stable relation above it, until it is stable itself.
-use Prim.Native.Nat.{ℕ, zero, suc, _+_, _*_, _-_, _≤_, _<_}
-use mathlib.Core.Path.{_≡_, refl, sym, subst, ap, _∙_}
+use Prim.Native.Nat.{ℕ, suc, _+_, _*_, _≤_, _<_}
+use mathlib.Core.Path.{_≡_, refl, sym, _∙_}
 use mathlib.Core.Bool.{Bool, true, false, false≢true}
 use mathlib.Core.List.{List}
-use mathlib.Core.Logic.{_⊎_, inl, inr, ⊎-elim}
+use mathlib.Core.Logic.{inl, inr, ⊎-elim}
 use native.Mathlib.Omega.{arith}
 use Rattle.notation.specs.Tokens.{choose}
 use Rattle.notation.specs.Triplets.{Triplet, negation}
@@ -11,15 +11,15 @@ use Rattle.relation.specs.Relation.{Rel, IsRelation, Within}
 use Rattle.relation.specs.Least.{Least, Holds}
 use Rattle.relation.specs.Classes.{Classes, entry, kept, rank}
 use Rattle.relation.specs.Contracts.{common, Shared, Joined, tied}
-use Rattle.relation.proofs.LiteralLaws.{split-eq}
-use Rattle.relation.proofs.RelationLaws.{within-refl, within-trans, least-below}
+use Rattle.notation.proofs.Cases.{split-eq}
+use Rattle.relation.proofs.RelationLaws.{within-trans, least-below}
 use Rattle.relation.proofs.ClassLaws.{is-relation, tied-cases}
 use Rattle.relation.proofs.RankLaws.{rank-settles}
 use Rattle.steps.specs.Rest.{NoStepEnlarges}
 use Rattle.steps.specs.Contracts.{inUse, tripletsAt, Rested}
 use Rattle.steps.proofs.Resting.{rest-same}
-use Rattle.saturation.specs.Saturation.{taking, Stable, Saturated, SaturationOf, Flags}
-use Rattle.saturation.specs.Contracts.{Growth, Ties, HoldsSplit, Ready, SaturatedTo, Nearer, Tried, Divided, Swept}
+use Rattle.saturation.specs.Saturation.{taking, Stable, SaturationOf, Flags}
+use Rattle.saturation.specs.Contracts.{Growth, Ties, HoldsSplit, SaturatedTo, Nearer, Tried, Divided, Swept}
 use Rattle.saturation.proofs.Taking.{above-taking, taking-above, taking-holds}
 use Rattle.saturation.proofs.Depth.{stable-rest, stable-when}
 use Rattle.saturation.proofs.Fixed.{negation-even}

@@ -11,7 +11,9 @@ use borrow.Author.Tests.{eqb-true, eq-eqb, ne-eqb}
 use Rattle.notation.specs.Tokens.{choose}
 use Rattle.notation.specs.Triplets.{negation}
 use Rattle.relation.specs.Relation.{Rel, IsRelation, Within}
-use Rattle.relation.proofs.LiteralLaws.{split-eq, negation-half, negation-differs}
+use Rattle.notation.proofs.Cases.{split-eq}
+use Rattle.notation.proofs.Shaped.{negation-half}
+use Rattle.relation.proofs.LiteralLaws.{negation-differs}
 use Rattle.truth.proofs.Literals.{parity}
 use Rattle.steps.proofs.Sides.{negation-twice}
 

@@ -10,7 +10,7 @@ use lib.Dec.{eqb}
 use lib.Pow.{shr-shr}
 use Rattle.notation.specs.Triplets.{negation}
 use Rattle.relation.specs.Relation.{Rel, IsRelation, Within}
-use Rattle.relation.proofs.LiteralLaws.{either, split-eq}
+use Rattle.notation.proofs.Cases.{either, split-eq}
 use Rattle.truth.specs.Value.{bit}
 use Rattle.truth.specs.Computed.{literalValue}
 use Rattle.truth.proofs.Literals.{literal-even, literal-odd, parity}

@@ -1,7 +1,7 @@
 -- Enough depth decides, whichever flags are tied: where at most k are not, and no state is left that makes the guard
 -- false, what is k-stable is contradictory.
 use Prim.Native.Nat.{ℕ, zero, suc, _+_, _*_, _-_, _^_, _≤_, _<_}
-use mathlib.Core.Path.{_≡_, refl, sym, _∙_}
+use mathlib.Core.Path.{_≡_, _∙_}
 use mathlib.Core.Bool.{Bool, true, false}
 use mathlib.Core.List.{List, [], _∷_}
 use mathlib.Core.Logic.{_⊎_, inl, inr, ⊎-elim}
@@ -13,9 +13,9 @@ use Rattle.notation.specs.Tokens.{choose}
 use Rattle.notation.specs.Guard.{Guard}
 use Rattle.notation.specs.Triplets.{negation, literal, triplets}
 use Rattle.relation.specs.Relation.{Rel, IsRelation, Within}
-use Rattle.relation.proofs.LiteralLaws.{split-eq}
+use Rattle.notation.proofs.Cases.{split-eq}
 use Rattle.truth.specs.Value.{bit, value}
-use Rattle.saturation.specs.Saturation.{taking, Stable}
+use Rattle.saturation.specs.Saturation.{Stable}
 use Rattle.saturation.proofs.Taking.{taking-above, taking-holds}
 use Rattle.saturation.proofs.Depth.{Among, stable-rest}
 use Rattle.saturation.proofs.Fixed.{literalFor}

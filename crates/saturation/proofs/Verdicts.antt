@@ -9,7 +9,7 @@ use native.Mathlib.Omega.{arith}
 use Rattle.notation.specs.Guard.{Guard}
 use Rattle.notation.specs.Triplets.{Triplet, negation, literal, triplets}
 use Rattle.relation.specs.Relation.{Rel, IsRelation}
-use Rattle.relation.proofs.LiteralLaws.{split-eq, either}
+use Rattle.notation.proofs.Cases.{split-eq, either}
 use Rattle.truth.specs.Value.{bit, value}
 use Rattle.truth.specs.Computed.{literalValue}
 use Rattle.truth.proofs.Literals.{literal-even, literal-negation, parity}

@@ -4,7 +4,6 @@ pub mod Sides
 pub mod Patterns
 pub mod Strongest
 pub mod StepLaws
-pub mod RestLaws
 pub mod Unique
 pub mod Placing
 pub mod Stepping

@@ -1,13 +1,13 @@
 -- The triplets that a list of numbers holds are those that it was written from.
 use Prim.Native.Nat.{ℕ, zero, suc, _+_, _*_, _≤_, _<_}
 use mathlib.Core.Path.{_≡_, refl, sym, ap, ap₂, _∙_}
-use mathlib.Core.List.{List, [], _∷_, _++_}
+use mathlib.Core.List.{List, [], _∷_}
 use native.Mathlib.Omega.{arith}
-use lib.ListN.{length, take, getD}
+use lib.ListN.{length, take}
 use lib.Seq.{getD-take}
 use Rattle.notation.specs.Triplets.{Triplet, numbers}
 use Rattle.steps.specs.Contracts.{tripletsAt}
-use Rattle.steps.proofs.RestLaws.{tripletAt, at-next}
+use Rattle.notation.proofs.EachTriplet.{tripletAt, at-next}
 
 first-then : (t : Triplet) (ts : List Triplet) (c : ℕ) → tripletsAt (numbers (t ∷ ts)) (suc c) ≡ t ∷ tripletsAt (numbers ts) c
 unfolding numbers

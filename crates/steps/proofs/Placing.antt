@@ -11,7 +11,8 @@ use borrow.Author.Tests.{eq-eqb, ne-eqb}
 use Rattle.notation.specs.Triplets.{negation}
 use Rattle.notation.specs.Tokens.{choose}
 use Rattle.relation.specs.Classes.{lead, relation}
-use Rattle.relation.proofs.LiteralLaws.{split-eq, same-variable}
+use Rattle.notation.proofs.Cases.{split-eq}
+use Rattle.relation.proofs.LiteralLaws.{same-variable}
 use Rattle.relation.proofs.ClassLaws.{lead-is, lead-negation, relation-leads, leads-same, contradictory-at}
 use Rattle.steps.specs.Step.{Side, own-x, own-y, own-z, literalAt}
 use Rattle.steps.specs.Table.{xNames, yNames, zNames, earliest, pattern, patternOf}

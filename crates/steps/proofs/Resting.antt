@@ -7,19 +7,19 @@ use mathlib.Core.Logic.{inl, inr, ⊎-elim}
 use native.Mathlib.Omega.{arith}
 use lib.ListN.{length, length-append}
 use Rattle.notation.specs.Ceilings.{flagCeiling, connectiveCeiling}
-use Rattle.notation.specs.Triplets.{Triplet, tripletVariable}
+use Rattle.notation.specs.Triplets.{Triplet, tripletVariable, Each}
 use Rattle.notation.specs.Shape.{Names, kindAt, yAt, zAt, Shape}
 use Rattle.relation.specs.Relation.{Rel, IsRelation, Within}
 use Rattle.relation.specs.Least.{Least}
 use Rattle.relation.specs.Classes.{entry, relation, contradictory, kept, Classes, rank}
-use Rattle.relation.proofs.LiteralLaws.{split-eq}
+use Rattle.notation.proofs.Cases.{split-eq}
 use Rattle.relation.proofs.RelationLaws.{within-refl, within-trans, least-below}
 use Rattle.relation.proofs.ClassLaws.{relation-all, is-relation}
 use Rattle.relation.proofs.RankLaws.{rank-settles}
 use Rattle.steps.specs.Step.{Side, literalAt, Adds, HoldsStep}
-use Rattle.steps.specs.Rest.{Each, HoldsStepOn, NoStepEnlarges}
+use Rattle.steps.specs.Rest.{HoldsStepOn, NoStepEnlarges}
 use Rattle.steps.specs.Contracts.{Usable, Readable, inUse, tripletsAt, Grown, Passed, Rested, Stepped}
-use Rattle.steps.proofs.RestLaws.{each-map, each-left, each-right, each-both, tripletAt}
+use Rattle.notation.proofs.EachTriplet.{each-map, each-left, each-right, each-both, tripletAt}
 
 -- ---- the triplets by their numbers
 triplets-count : (numbers : List ℕ) (c : ℕ) → c ≡ 0 + length (tripletsAt numbers c)

@@ -9,7 +9,8 @@ use Rattle.relation.specs.Relation.{Rel, IsRelation, Within}
 use Rattle.relation.specs.Least.{Holds}
 use Rattle.relation.specs.Classes.{lead, entry as at, contradictory as broken, kept, Classes}
 use Rattle.relation.specs.Contracts.{Joined}
-use Rattle.relation.proofs.LiteralLaws.{either, negation-half}
+use Rattle.notation.proofs.Cases.{either}
+use Rattle.notation.proofs.Shaped.{negation-half}
 use Rattle.relation.proofs.RelationLaws.{least-none, least-then, least-same}
 use Rattle.relation.proofs.ClassLaws.{relation-all, is-relation, true-leads}
 use Rattle.steps.specs.Step.{Side, never, always, own-x, not-x, own-y, not-y, own-z, not-z, literalAt, HoldsStep}

@@ -10,7 +10,7 @@ use Rattle.relation.specs.Relation.{Rel, IsRelation}
 use Rattle.steps.specs.Step.{Side, never, always, own-x, own-y, own-z, Values, truthAt, connected, Satisfies, Obeys}
 use Rattle.steps.specs.Table.{xNames, yNames, zNames, xNamed, yNamed, zNamed, pattern, patternOf, fits, both, each, follows, contradictory, entry}
 use Rattle.steps.proofs.Entries.{and-left, and-right}
-use Rattle.relation.proofs.LiteralLaws.{either}
+use Rattle.notation.proofs.Cases.{either}
 use Rattle.steps.proofs.Sides.{beq-eq, eq-beq, not-self, other, truth-other, Closed, Consistent, held, alike, held-closed, held-consistent, alike-closed}
 use Rattle.steps.proofs.Patterns.{first, pattern-below, x-named, y-named, z-named, generated}
 

@@ -1,15 +1,10 @@
 -- What a step makes of a relation, and a relation that no step enlarges.
 use Prim.Native.Nat.{ℕ, _+_, _*_}
 use mathlib.Core.List.{List, [], _∷_}
-use Rattle.notation.specs.Triplets.{Triplet, tripletVariable}
+use Rattle.notation.specs.Triplets.{Triplet, Each}
 use Rattle.relation.specs.Relation.{Rel}
 use Rattle.relation.specs.Least.{Least}
 use Rattle.steps.specs.Step.{HoldsStep}
-
--- P holds of each triplet with its own literal, where c triplets stand before the list
-abbrev pub Each : (Triplet → ℕ → Type 0) → ℕ → List Triplet → Type 0
-Each P c [] = Unit {0}
-Each P c (t ∷ ts) = P t (2 * tripletVariable (c + 1)) × Each P (c + 1) ts
 
 -- A holds all that a step on a triplet with the literal x adds to S
 abbrev pub HoldsStepOn : Rel → Rel → Triplet → ℕ → Type 0

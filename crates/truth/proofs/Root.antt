@@ -1,18 +1,19 @@
 -- What the triplets of a tree compute at its root is the tree's value.
-use Prim.Native.Nat.{ℕ, zero, suc, _+_, _*_, _-_, _/_, _%_, _≤_, _<_}
-use mathlib.Core.Path.{_≡_, refl, sym, ap, ap₂, _∙_}
+use Prim.Native.Nat.{ℕ, suc, _+_, _*_, _≤_}
+use mathlib.Core.Path.{_≡_, refl, ap, ap₂, _∙_}
 use mathlib.Core.Bool.{Bool, true, false, not, Bool·not-not}
 use mathlib.Core.List.{List, [], _∷_, _++_, append-assoc}
 use native.Mathlib.Omega.{arith}
-use lib.ListN.{length, length-append, getD}
+use lib.ListN.{length, length-append}
 use lib.Seq.{getD-append-add}
 use Rattle.notation.specs.Ceilings.{flagCeiling}
 use Rattle.notation.specs.Tokens.{Sign, same, implies, or, and}
 use Rattle.notation.specs.Guard.{Guard, flag, truth, negated, joined, connectives}
-use Rattle.notation.specs.Triplets.{Triplet, tripletVariable, negation, tripletOf, literalOf, literal, triplets, numbers}
-use Rattle.notation.specs.Shape.{Shape, kindAt, yAt, zAt}
-use Rattle.truth.specs.Value.{bit, table, value}
-use Rattle.truth.specs.Computed.{literalValue, gate, computed, FlagsWithin, Valued}
+use Rattle.notation.specs.Triplets.{Triplet, tripletVariable, tripletOf, literalOf, literal, triplets, numbers}
+use Rattle.notation.specs.Shape.{Shape, kindAt, yAt, zAt, FlagsWithin}
+use Rattle.notation.proofs.Shaped.{count-triplets}
+use Rattle.truth.specs.Value.{table, value}
+use Rattle.truth.specs.Computed.{literalValue, gate, computed, Valued}
 use Rattle.truth.proofs.Literals.{literal-even, literal-odd, literal-negation}
 use Rattle.truth.proofs.Computing.{valued}
 
@@ -20,15 +21,6 @@ use Rattle.truth.proofs.Computing.{valued}
 abbrev pub Holds : List ℕ → ℕ → List Triplet → Type 0
 Holds xs c [] = Unit {0}
 Holds xs c (t ∷ ts) = (kindAt xs c ≡ t .kind) × (yAt xs c ≡ t .y) × (zAt xs c ≡ t .z) × Holds xs (suc c) ts
-
--- there are as many triplets as connectives
-pub count-triplets : (c : ℕ) (g : Guard) → length (triplets c g) ≡ connectives g
-unfolding triplets connectives
-count-triplets c (flag i) = refl
-count-triplets c (truth b) = refl
-count-triplets c (negated g) = count-triplets c g
-count-triplets c (joined s g h) =
-    rw (length-append, length-append, count-triplets c g, count-triplets (c + connectives g) h) (omega arith)
 
 holds-left : (xs : List ℕ) (ts us : List Triplet) (c : ℕ) → Holds xs c (ts ++ us) → Holds xs c ts
 holds-left xs [] us c h = tt

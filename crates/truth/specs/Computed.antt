@@ -28,13 +28,6 @@ computed n s xs (suc c) v =
     (gate (kindAt xs c) (literalValue (computed n s xs c) (yAt xs c)) (literalValue (computed n s xs c) (zAt xs c)))
     (computed n s xs c v)
 
--- every flag of a guard is one of 1 to n
-abbrev pub FlagsWithin : ℕ → Guard → Type 0
-FlagsWithin n (flag i) = (0 < i) × (i ≤ n)
-FlagsWithin n (truth b) = Unit {0}
-FlagsWithin n (negated g) = FlagsWithin n g
-FlagsWithin n (joined c g h) = FlagsWithin n g × FlagsWithin n h
-
 -- v gives true its value, each flag its bit of the state s, and each of the c triplets what its operands make of it
 pub record Valued (n s c : ℕ) (xs : List ℕ) (v : ℕ → Bool) : Type 0 where
   pub top : v 0 ≡ true

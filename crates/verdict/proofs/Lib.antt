@@ -1,5 +1,3 @@
 pub mod Trying
 pub mod Tables
 pub mod Unique
-pub mod Numbered
-pub mod Accepted

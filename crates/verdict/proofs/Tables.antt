@@ -1,9 +1,9 @@
 -- At a depth not below the number of flags the first gap is the answer.
 use Prim.Native.Nat.{ℕ, zero, suc, _+_, _*_, _-_, _/_, _^_, _≤_, _<_}
-use mathlib.Core.Path.{_≡_, refl, sym, subst, ap, _∙_}
+use mathlib.Core.Path.{_≡_, refl, sym, ap, _∙_}
 use mathlib.Core.Bool.{Bool, true, false}
-use mathlib.Core.List.{List, [], _∷_, _++_}
-use mathlib.Core.Logic.{_⊎_, inl, inr, ⊎-elim}
+use mathlib.Core.List.{List, [], _∷_}
+use mathlib.Core.Logic.{⊎-elim}
 use native.Mathlib.Omega.{arith}
 use lib.ListN.{length, take, getD}
 use lib.Seq.{getD-take}
@@ -11,20 +11,20 @@ use lib.Dec.{leb}
 use borrow.Author.Tests.{lt-leb}
 use Rattle.notation.specs.Ceilings.{flagCeiling}
 use Rattle.notation.specs.Guard.{Guard, connectives}
-use Rattle.notation.specs.Triplets.{Triplet, tripletVariable, literal, triplets, numbers}
-use Rattle.notation.specs.Shape.{Names, Shape, kindAt, yAt, zAt}
-use Rattle.relation.proofs.LiteralLaws.{either, split-eq}
+use Rattle.notation.specs.Triplets.{tripletVariable, literal, triplets, numbers}
+use Rattle.notation.specs.Shape.{Names, Shape, FlagsWithin}
+use Rattle.notation.proofs.Cases.{either, split-eq}
 use Rattle.truth.specs.Value.{value}
-use Rattle.truth.specs.Computed.{literalValue, computed, FlagsWithin}
+use Rattle.truth.specs.Computed.{computed}
 use Rattle.truth.proofs.Computing.{computed-same}
 use Rattle.truth.proofs.Literals.{literal-agrees}
-use Rattle.truth.proofs.Root.{count-triplets}
-use Rattle.steps.specs.Contracts.{Readable, inUse, tripletsAt}
+use Rattle.notation.proofs.Shaped.{count-triplets, shaped, root-named}
+use Rattle.steps.specs.Contracts.{inUse, tripletsAt}
 use Rattle.steps.proofs.Resting.{readable-from}
 use Rattle.steps.proofs.Listing.{triplets-read}
 use Rattle.saturation.specs.Saturation.{Flags}
-use Rattle.saturation.specs.Answer.{Verdict, covered, gap, undecided, Answer}
-use Rattle.saturation.proofs.Valuations.{shaped, root-named, valuation, valuation-root}
+use Rattle.saturation.specs.Answer.{Answer}
+use Rattle.saturation.proofs.Valuations.{valuation, valuation-root}
 use Rattle.saturation.proofs.Confirmed.{full-covered, full-gap}
 use Rattle.gaps.specs.Gaps.{falseFrom}
 use Rattle.gaps.specs.Writing.{found, Writes}

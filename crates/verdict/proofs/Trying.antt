@@ -1,27 +1,26 @@
 -- The trial of flags, from saturated relation to saturated relation.
-use Prim.Native.Nat.{ℕ, zero, suc, _+_, _*_, _/_, _%_, _^_, _≤_, _<_}
-use mathlib.Core.Path.{_≡_, refl, sym, subst, ap, _∙_}
-use mathlib.Core.Bool.{Bool, true, false}
+use Prim.Native.Nat.{ℕ, suc, _+_, _*_, _/_, _%_, _^_, _≤_, _<_}
+use mathlib.Core.Path.{_≡_, refl, sym, _∙_}
+use mathlib.Core.Bool.{true, false}
 use mathlib.Core.List.{List, [], _∷_}
 use mathlib.Core.Logic.{_↔_}
 use native.Mathlib.Omega.{arith}
 use native.Mathlib.Numerals.{add-one}
-use lib.Dec.{eqb}
 use lib.Pow.{pow-mono}
 use borrow.Author.Tests.{eqb-true}
 use Rattle.notation.specs.Ceilings.{flagCeiling}
 use Rattle.notation.specs.Triplets.{Triplet, negation}
 use Rattle.relation.specs.Relation.{Rel, IsRelation, Within}
-use Rattle.relation.specs.Least.{Least, Holds}
 use Rattle.relation.specs.Classes.{Classes, entry, kept, signed}
 use Rattle.relation.specs.Contracts.{Fresh, Joined}
-use Rattle.relation.proofs.LiteralLaws.{never, signed-odd}
-use Rattle.relation.proofs.RelationLaws.{within-refl, least-below}
+use Rattle.notation.proofs.Cases.{never}
+use Rattle.relation.proofs.LiteralLaws.{signed-odd}
+use Rattle.relation.proofs.RelationLaws.{within-refl}
 use Rattle.relation.proofs.ClassLaws.{is-relation}
 use Rattle.steps.specs.Contracts.{inUse, tripletsAt}
 use Rattle.saturation.specs.Saturation.{taking, taken, Stable, Saturated, SaturationOf, Flags}
 use Rattle.saturation.specs.Contracts.{SaturatedTo}
-use Rattle.saturation.specs.Answer.{flagAs, flagsAs, Refuted, Trial, Answer}
+use Rattle.saturation.specs.Answer.{flagAs, flagsAs, Refuted, Trial}
 use Rattle.saturation.proofs.Taking.{HoldsAll, above-taking, taking-above, taking-holds, above-taken, taken-above}
 use Rattle.saturation.proofs.Depth.{saturated-held, in-turn}
 use Rattle.saturation.proofs.Fixed.{negation-even}

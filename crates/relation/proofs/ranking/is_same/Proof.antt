@@ -6,7 +6,7 @@ use mathlib.Core.Logic.{⊎-elim}
 use native.Mathlib.Omega.{arith}
 use borrow.Author.Tests.{eq-eqb, ne-eqb}
 use Rattle.relation.specs.Classes.{entry}
-use Rattle.relation.proofs.LiteralLaws.{lt-or-ge, split-eq}
+use Rattle.notation.proofs.Cases.{lt-or-ge, split-eq}
 use Rattle.relation.proofs.ClassLaws.{entry-at, alike-contradictory, alike-not, alike-same}
 use Rattle.relation.proofs.ranking.is_same.Statement.{statement}
 use Rattle.relation.proofs.ranking.is_same.Tie as tie

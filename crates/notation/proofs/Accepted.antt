@@ -1,22 +1,22 @@
 -- The guard of an accepted text has its flags among those of the text: where the walk accepts, it passes what the grammar
 -- reads with the same codes seen, and it only adds codes.
-use Prim.Native.Nat.{ℕ, zero, suc, _+_, _≤_, _<_}
-use mathlib.Core.Path.{_≡_, refl, sym, _∙_}
+use Prim.Native.Nat.{ℕ, zero, suc, _≤_}
+use mathlib.Core.Path.{_≡_, refl, sym}
 use mathlib.Core.Bool.{Bool, true, false, false≢true}
-use mathlib.Core.List.{List, [], _∷_}
+use mathlib.Core.List.{List, []}
 use mathlib.Core.Logic.{⊎-elim}
 use native.Mathlib.Omega.{arith}
 use lib.ListN.{length}
 use lib.Dec.{leb}
 use Rattle.notation.specs.Ceilings.{flagCeiling, connectiveCeiling, bracketCeiling, textCeiling}
-use Rattle.notation.specs.Tokens.{Code, Sign, same, implies, or, and, Token, Tokens, stray, long, code, hash, bang, sign, opening, closing, end, at, choose, tokens}
+use Rattle.notation.specs.Tokens.{Sign, same, implies, or, and, Tokens, stray, long, code, hash, bang, sign, opening, closing, end, at, tokens}
 use Rattle.notation.specs.Walk.{Flag, seen, Wanted, operand, after, Outcome, refused, accepted, within, walk}
-use Rattle.notation.specs.Guard.{Guard, flag, truth, negated, joined}
+use Rattle.notation.specs.Guard.{Guard, negated, joined}
 use Rattle.notation.specs.Grammar.{Parsed, none, found, Level, follow, isSign, signNext, past, toTheLeft, toTheRight, leftLevel, rightLevel, andOf, orOf, impliesOf, sameOf, closed, operandOf, inBrackets, treeOf, tree}
-use Rattle.notation.specs.Reading.{Reading, refusal, guard, judged, reading}
-use Rattle.relation.proofs.LiteralLaws.{either}
-use Rattle.truth.specs.Computed.{FlagsWithin}
-use Rattle.verdict.proofs.Numbered.{within-more, seen-fine, read-within}
+use Rattle.notation.specs.Reading.{refusal, guard, judged, reading}
+use Rattle.notation.proofs.Cases.{either}
+use Rattle.notation.specs.Shape.{FlagsWithin}
+use Rattle.notation.proofs.Numbered.{within-more, seen-fine, read-within}
 
 -- ---- the walk
 not-accepted : (k p : ℕ) (w : List Flag) (m : ℕ) → refused k p ≡ accepted w m → ⊥
