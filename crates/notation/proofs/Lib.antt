@@ -14,3 +14,4 @@ pub mod Joining
 pub mod Nesting
 pub mod Parsing
 pub mod Examples
+pub mod Serving

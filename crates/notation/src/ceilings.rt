@@ -14,3 +14,9 @@ pub const FLAGS: usize = 24;
 
 // Two-sided connectives of a guard, and so its triplets.
 pub const CONNECTIVES: usize = 255;
+
+// Numbers of a table that holds where each flag's code starts and ends.
+pub const CODES_ROOM: usize = 2 * FLAGS;
+
+// Numbers of a table that holds kind, y and z of each triplet.
+pub const TRIPLETS_ROOM: usize = 3 * CONNECTIVES;

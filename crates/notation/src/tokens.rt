@@ -298,8 +298,6 @@ const CLASS: [u8; 256] = [
     0,
 ];
 
-const SPACE_BYTE: u8 = 1;
-
 const CODE_BYTE: u8 = 2;
 
 const HASH: u8 = 3;
