@@ -39,5 +39,5 @@ pub fn read(text: &[u8], room: &mut [u16]) -> Parsed
         });
     }
     copy(&out, room, len);
-    parsed
+    Parsed::Guard(guard)
 }
