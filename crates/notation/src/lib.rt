@@ -2,7 +2,9 @@
 pub mod ceilings;
 pub mod codes;
 pub mod levels;
+pub mod name;
 pub mod parse;
+pub mod read;
 pub mod refusal;
 pub mod tokens;
 pub mod triplets;
