@@ -14,3 +14,4 @@ pub mod Blocks
 pub mod Walks
 pub mod Complete
 pub mod OfGuard
+pub mod Listed

@@ -1,32 +1,33 @@
--- The triplets of a guard are false exactly in its gaps.
-use Prim.Native.Nat.{ℕ, _*_, _-_, _/_, _^_, _≤_, _<_}
-use mathlib.Core.Path.{_≡_, _∙_}
+-- Numbers that begin with the triplets of a guard can be searched, and they are false exactly in its gaps.
+use Prim.Native.Nat.{ℕ, _*_, _-_, _^_, _≤_}
+use mathlib.Core.Path.{_≡_}
 use mathlib.Core.List.{List}
-use lib.ListN.{getD}
-use Rattle.notation.specs.Ceilings.{flagCeiling}
-use Rattle.notation.specs.Guard.{Guard, connectives}
-use Rattle.notation.specs.Triplets.{literal, triplets, numbers}
-use Rattle.notation.specs.Shape.{Shape, FlagsWithin}
+use lib.ListN.{length}
+use Rattle.notation.specs.Ceilings.{connectiveCeiling}
+use Rattle.notation.specs.Guard.{Guard}
 use Rattle.truth.specs.Value.{value}
-use Rattle.truth.specs.Computed.{computed}
-use Rattle.truth.proofs.Literals.{literal-agrees}
-use Rattle.truth.proofs.Computing.{computed-same}
-use Rattle.truth.proofs.Root.{root-value}
+use Rattle.truth.proofs.Written.{Begins, written-shaped, written-root, written-value}
 use Rattle.gaps.specs.Gaps.{falseFrom, gapsFrom}
-use Rattle.gaps.specs.Walking.{rootValue}
+use Rattle.gaps.specs.Walking.{rootValue, Triplets}
 use Rattle.gaps.proofs.Ascending.{false-same}
 
-module _ (n : ℕ) (g : Guard) (xs : List ℕ) (small : n ≤ flagCeiling) (flags : FlagsWithin n g) (shape : Shape n (connectives g) (numbers (triplets 0 g)))
-    (same : (k : ℕ) → k < 3 * connectives g → getD xs k 0 ≡ getD (numbers (triplets 0 g)) k 0) where
-  -- where the first numbers of xs are the guard's triplets, they have its value at its literal
-  pub guard-value : (s : ℕ) → rootValue n xs (connectives g) (literal 0 g) s ≡ value n s g
-  unfolding rootValue
-  guard-value s =
-      literal-agrees (computed n s xs (connectives g)) (computed n s (numbers (triplets 0 g)) (connectives g)) (literal 0 g)
-      (computed-same n s (connectives g) (numbers (triplets 0 g)) xs same (literal 0 g / 2))
-      ∙ root-value n s g small flags shape
+module _ (n c root : ℕ) (g : Guard) (xs : List ℕ) (b : Begins n c root g xs) where
+  -- they are what the search asks
+  pub guard-searchable : c ≤ connectiveCeiling → 3 * c ≤ length xs → Triplets n xs c root
+  guard-searchable short long =
+      record {
+        flags = b .few;
+        count = (short, long);
+        shape = written-shaped n c root g xs b;
+        named = written-root n c root g xs b;
+      }
 
-  -- and what is false of them from the start on are its gaps
-  pub guard-gaps : (start : ℕ) → falseFrom (rootValue n xs (connectives g) (literal 0 g)) start (2 ^ n - start) ≡ gapsFrom n g start
+  -- they have the guard's value
+  pub guard-value : (s : ℕ) → rootValue n xs c root s ≡ value n s g
+  unfolding rootValue
+  guard-value = written-value n c root g xs b
+
+  -- what is false of them from the start on are the guard's gaps
+  pub guard-gaps : (start : ℕ) → falseFrom (rootValue n xs c root) start (2 ^ n - start) ≡ gapsFrom n g start
   unfolding gapsFrom
-  guard-gaps start = false-same (rootValue n xs (connectives g) (literal 0 g)) (λ s. value n s g) start (2 ^ n - start) (λ s p q. guard-value s)
+  guard-gaps start = false-same (rootValue n xs c root) (λ s. value n s g) start (2 ^ n - start) (λ s p q. guard-value s)

@@ -1,5 +1,6 @@
 // The gaps of a guard: the states that make it false, in ascending order.
 pub mod fixing;
+pub mod list;
 pub mod listing;
 pub mod rows;
 pub mod search;

@@ -1,3 +1,5 @@
 pub mod Literals
 pub mod Computing
 pub mod Root
+pub mod Written
+pub mod Below

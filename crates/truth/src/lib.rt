@@ -1,2 +1,2 @@
 // What a guard means.
-pub fn nothing() {}
+pub mod states;

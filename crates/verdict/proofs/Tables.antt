@@ -1,35 +1,30 @@
 -- At a depth not below the number of flags the first gap is the answer.
 use Prim.Native.Nat.{ℕ, zero, suc, _+_, _*_, _-_, _/_, _^_, _≤_, _<_}
-use mathlib.Core.Path.{_≡_, refl, sym, ap, _∙_}
+use mathlib.Core.Path.{_≡_, refl, sym, _∙_}
 use mathlib.Core.Bool.{Bool, true, false}
 use mathlib.Core.List.{List, [], _∷_}
 use mathlib.Core.Logic.{⊎-elim}
 use native.Mathlib.Omega.{arith}
-use lib.ListN.{length, take, getD}
-use lib.Seq.{getD-take}
+use lib.ListN.{length, take}
 use lib.Dec.{leb}
 use borrow.Author.Tests.{lt-leb}
-use Rattle.notation.specs.Ceilings.{flagCeiling}
 use Rattle.notation.specs.Guard.{Guard, connectives}
 use Rattle.notation.specs.Triplets.{tripletVariable, literal, triplets, numbers}
-use Rattle.notation.specs.Shape.{Names, Shape, FlagsWithin}
 use Rattle.notation.proofs.Cases.{either, split-eq}
 use Rattle.truth.specs.Value.{value}
-use Rattle.truth.specs.Computed.{computed}
-use Rattle.truth.proofs.Computing.{computed-same}
-use Rattle.truth.proofs.Literals.{literal-agrees}
-use Rattle.notation.proofs.Shaped.{count-triplets, shaped, root-named}
+use Rattle.truth.proofs.Written.{Begins}
+use Rattle.notation.proofs.Shaped.{count-triplets}
 use Rattle.steps.specs.Contracts.{inUse, tripletsAt}
 use Rattle.steps.proofs.Resting.{readable-from}
 use Rattle.steps.proofs.Listing.{triplets-read}
 use Rattle.saturation.specs.Saturation.{Flags}
 use Rattle.saturation.specs.Answer.{Answer}
-use Rattle.saturation.proofs.Valuations.{valuation, valuation-root}
 use Rattle.saturation.proofs.Confirmed.{full-covered, full-gap}
 use Rattle.gaps.specs.Gaps.{falseFrom}
 use Rattle.gaps.specs.Writing.{found, Writes}
 use Rattle.gaps.specs.Walking.{rootValue, Triplets}
 use Rattle.gaps.proofs.Ascending.{false-not, false-one}
+use Rattle.gaps.proofs.OfGuard.{guard-searchable, guard-value}
 use Rattle.verdict.specs.Check.{GuardSays, verdictOf}
 use Rattle.verdict.specs.Decision.{FromGuard, Askable, Decided, FullyDecided, firstGap, meant}
 use Rattle.gaps.specs.declared.writing.Found.{Found}
@@ -81,35 +76,12 @@ unfolding found
 found-one s l = let h : leb (length (s ∷ l)) 0 ≡ false = lt-leb (length (s ∷ l)) 0 (omega arith) in rw h
 
 -- ---- what the numbers of a guard's triplets are
-module _ (xs : List ℕ) (c n root : ℕ) (g : Guard) (within : FlagsWithin n g) (count : c ≡ connectives g) (literal-of : root ≡ literal 0 g)
+module _ (xs : List ℕ) (c n root : ℕ) (g : Guard) (count : c ≡ connectives g) (literal-of : root ≡ literal 0 g)
     (written : take (3 * c) xs ≡ numbers (triplets 0 g)) where
-  agree : (k : ℕ) → k < 3 * c → getD xs k 0 ≡ getD (numbers (triplets 0 g)) k 0
-  agree k h = sym (getD-take (3 * c) xs k 0 h) ∙ ap (λ (ys : List ℕ). getD ys k 0) (written)
-
   pub listed : tripletsAt xs c ≡ triplets 0 g
   listed =
       let e : length (triplets 0 g) ≡ c = count-triplets 0 g ∙ sym (count) in
       rw e at (triplets-read xs (triplets 0 g) (rw e (written)))
-
-  pub shape : Shape n c xs
-  shape =
-      let s : Shape n c (numbers (triplets 0 g)) = rw (count) (shaped n g (within)) in
-      record {
-        kinds = λ j h. rw (agree (3 * j) (omega arith)) (s .kinds j h);
-        ys = λ j h. rw (agree (3 * j + 1) (omega arith)) (s .ys j h);
-        zs = λ j h. rw (agree (3 * j + 2) (omega arith)) (s .zs j h);
-      }
-
-  pub named : Names n c root
-  named = rw (literal-of, count) (root-named n g (within))
-
-  -- the triplets have the guard's value
-  pub root-is-value : n ≤ flagCeiling → (s : ℕ) → rootValue n xs c root s ≡ value n s g
-  unfolding rootValue valuation
-  root-is-value flags s =
-      literal-agrees (computed n s xs c) (computed n s (numbers (triplets 0 g)) c) root
-      (computed-same n s c (numbers (triplets 0 g)) xs agree (root / 2))
-      ∙ (rw (literal-of, count) (valuation-root n g (record { few = flags; within = within }) s))
 
   pub at-guard : (k : ℕ) (r : Decision) → Answer (Flags n) (triplets 0 g) (literal 0 g) k n (meant r) → Decided xs c n root k r
   at-guard k r a = rw (listed, literal-of) a
@@ -121,40 +93,44 @@ module _ (xs : List ℕ) (c n root : ℕ) (from : FromGuard xs c n root) where
   abbrev g : Guard
   g = from .guard
 
-  its-shape : Shape n c xs
-  its-shape = shape xs c n root g (from .proper .within) (from .count) (from .literal) (from .written)
-
-  its-root : Names n c root
-  its-root = named xs c n root g (from .proper .within) (from .count) (from .literal) (from .written)
+  begins : Begins n c root g xs
+  begins =
+      record {
+        few = from .proper .few;
+        within = from .proper .within;
+        count = from .count;
+        literal = from .literal;
+        written = from .written;
+      }
 
   pub searchable : Triplets n xs c root
-  searchable = record { flags = from .proper .few; count = (from .few, from .long); shape = its-shape; named = its-root }
+  searchable = guard-searchable n c root g xs begins (from .few) (from .long)
 
   root-known : root / 2 < inUse c
   root-known =
       ⊎-elim (λ (p : root / 2 ≤ n). omega (arith, from .proper .few))
       (λ (p : (tripletVariable 0 < root / 2) × (root / 2 ≤ tripletVariable c)). omega arith)
-      its-root
+      (searchable .named)
 
   pub askable : Askable xs c n root
   askable =
       record {
-        readable = readable-from n c xs (from .proper .few) (from .few) (from .long) its-shape;
+        readable = readable-from n c xs (from .proper .few) (from .few) (from .long) (searchable .shape);
         flags = from .proper .few;
         known = root-known;
       }
 
   its-value : (s : ℕ) → rootValue n xs c root s ≡ value n s g
-  its-value = root-is-value xs c n root g (from .proper .within) (from .count) (from .literal) (from .written) (from .proper .few)
+  its-value = guard-value n c root g xs begins
 
   its-answer : (k : ℕ) (r : Decision) → Answer (Flags n) (triplets 0 g) (literal 0 g) k n (meant r) → Decided xs c n root k r
-  its-answer = at-guard xs c n root g (from .proper .within) (from .count) (from .literal) (from .written)
+  its-answer = at-guard xs c n root g (from .count) (from .literal) (from .written)
 
   -- what is decided of the triplets is the verdict on the guard
   pub guard-says : (k : ℕ) (r : Decision) → Decided xs c n root k r → GuardSays n g k (verdictOf r)
-  guard-says k Covered a = of-guard xs c n root g (from .proper .within) (from .count) (from .literal) (from .written) k Covered a
-  guard-says k (Gap s) a = of-guard xs c n root g (from .proper .within) (from .count) (from .literal) (from .written) k (Gap s) a
-  guard-says k Undecided a = of-guard xs c n root g (from .proper .within) (from .count) (from .literal) (from .written) k Undecided a
+  guard-says k Covered a = of-guard xs c n root g (from .count) (from .literal) (from .written) k Covered a
+  guard-says k (Gap s) a = of-guard xs c n root g (from .count) (from .literal) (from .written) k (Gap s) a
+  guard-says k Undecided a = of-guard xs c n root g (from .count) (from .literal) (from .written) k Undecided a
 
   -- the list of all gaps, with nothing written of it, says the answer
   fully : (l : List ℕ) → falseFrom (rootValue n xs c root) 0 (2 ^ n - 0) ≡ l → FullyDecided xs c n root (firstGap (found l 0))

@@ -1,0 +1,31 @@
+// Lists the gaps of a text.
+use crate::listing::Listing;
+use crate::search::search;
+use notation::ceilings::CODES_ROOM;
+use notation::ceilings::TRIPLETS_ROOM;
+use notation::parse::Parsed;
+use notation::parse::parse;
+use notation::refusal::Refusal;
+use truth::states::is_state;
+ghost use Rattle.gaps.specs.Listed.{Lists};
+
+// Writes the gaps of a text from `start` on, ascending, as many as there is room for.
+pub fn list(text: &[u8], start: u64, out: &mut [u32]) -> Listing
+    ensures { λ r. ⌜ Lists (now (text .entry)) start (now (out .entry)) r (now (out .exit)) ⌝ }
+{
+    let mut codes = [0usize; CODES_ROOM];
+    let mut triplets = [0u16; TRIPLETS_ROOM];
+    let parsed = parse(text, &mut codes, &mut triplets);
+    let guard = match parsed {
+        Parsed::Refused(refusal) => return Listing::Refused(refusal),
+        Parsed::Guard(guard) => guard,
+    };
+    if !is_state(start, guard.flags) {
+        return Listing::Refused(Refusal {
+            number: 9,
+            place: 0,
+        });
+    }
+    let found = search(&triplets, guard.count, guard.root, guard.flags, start, out);
+    Listing::Gaps(found)
+}

@@ -1,0 +1,74 @@
+-- What numbers say that begin with the triplets of a guard: their shape, their root and their value are the guard's.
+use Prim.Native.Nat.{ℕ, _+_, _*_, _/_, _≤_, _<_}
+use mathlib.Core.Path.{_≡_, sym, ap, _∙_}
+use mathlib.Core.List.{List}
+use native.Mathlib.Omega.{arith}
+use lib.ListN.{length, take, getD}
+use lib.Seq.{getD-take}
+use Rattle.notation.specs.Ceilings.{flagCeiling, connectiveCeiling}
+use Rattle.notation.specs.Guard.{Guard, connectives}
+use Rattle.notation.specs.Triplets.{literal, triplets, numbers}
+use Rattle.notation.specs.Shape.{Names, Shape, FlagsWithin}
+use Rattle.notation.specs.Reading.{reading}
+use Rattle.notation.specs.declared.parse.Guard as counted
+use Rattle.notation.proofs.Accepted.{reading-within}
+use Rattle.notation.proofs.Serving.{Found}
+use Rattle.notation.proofs.Shaped.{shaped, root-named}
+use Rattle.truth.specs.Value.{value}
+use Rattle.truth.specs.Computed.{literalValue, computed}
+use Rattle.truth.proofs.Literals.{literal-agrees}
+use Rattle.truth.proofs.Computing.{computed-same}
+use Rattle.truth.proofs.Root.{root-value}
+
+-- the numbers xs begin with the c triplets of a guard of n flags, and root is its literal
+pub record Begins (n c root : ℕ) (g : Guard) (xs : List ℕ) : Type 0 where
+  pub few : n ≤ flagCeiling
+  pub within : FlagsWithin n g
+  pub count : c ≡ connectives g
+  pub literal : root ≡ literal 0 g
+  pub written : take (3 * c) xs ≡ numbers (triplets 0 g)
+
+module _ (n c root : ℕ) (g : Guard) (xs : List ℕ) (b : Begins n c root g xs) where
+  agree : (k : ℕ) → k < 3 * c → getD xs k 0 ≡ getD (numbers (triplets 0 g)) k 0
+  agree k h = sym (getD-take (3 * c) xs k 0 h) ∙ ap (λ (ys : List ℕ). getD ys k 0) (b .written)
+
+  pub written-shaped : Shape n c xs
+  written-shaped =
+      let s : Shape n c (numbers (triplets 0 g)) = rw (b .count) (shaped n g (b .within)) in
+      record {
+        kinds = λ j h. rw (agree (3 * j) (omega arith)) (s .kinds j h);
+        ys = λ j h. rw (agree (3 * j + 1) (omega arith)) (s .ys j h);
+        zs = λ j h. rw (agree (3 * j + 2) (omega arith)) (s .zs j h);
+      }
+
+  pub written-root : Names n c root
+  written-root = rw (b .literal, b .count) (root-named n g (b .within))
+
+  -- what they compute at the root, in every state, is the guard's value
+  pub written-value : (s : ℕ) → literalValue (computed n s xs c) root ≡ value n s g
+  written-value s =
+      literal-agrees (computed n s xs c) (computed n s (numbers (triplets 0 g)) c) root
+      (computed-same n s c (numbers (triplets 0 g)) xs agree (root / 2))
+      ∙ rw (b .literal, b .count) (root-value n s g (b .few) (b .within) (shaped n g (b .within)))
+
+-- what parse leaves behind where it answers a guard
+module _ (text : List ℕ) (x : counted.Guard) (codes xs : List ℕ) (f : Found text (reading text) x codes xs) where
+  -- there are as many flags as the text has
+  pub read-flags : x .flags ≡ length (f .flags)
+  read-flags = ap (λ (y : counted.Guard). y .flags) (f .counts)
+
+  read-count : x .count ≡ connectives (f .tree)
+  read-count = ap (λ (y : counted.Guard). y .count) (f .counts)
+
+  pub read-begins : Begins (x .flags) (x .count) (x .root) (f .tree) xs
+  read-begins =
+      record {
+        few = rw read-flags (f .read .few);
+        within = rw read-flags (reading-within text (f .tree) (f .flags) (f .says));
+        count = read-count;
+        literal = ap (λ (y : counted.Guard). y .root) (f .counts);
+        written = rw read-count (f .read .written);
+      }
+
+  pub read-short : x .count ≤ connectiveCeiling
+  read-short = rw read-count (f .read .short)

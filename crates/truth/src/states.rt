@@ -1,0 +1,12 @@
+// States of a guard: with n flags, the numbers below 2^n.
+ghost use mathlib.Core.Path.{_≡_};
+ghost use Prim.Native.Nat.{_^_, _<_};
+ghost use lib.Dec.{ltb};
+
+// Whether a number is a state of so many flags.
+pub fn is_state(number: u64, flags: usize) -> bool
+    requires { ⌜ flags < 64 ⌝ }
+    ensures { λ r. ⌜ r ≡ ltb number (2 ^ flags) ⌝ }
+{
+    number >> flags == 0
+}
