@@ -1,16 +1,4 @@
 -- What parse leaves in its tables is what the services over a text answer from.
-<<<<<<< HEAD
-use Prim.Native.Nat.{ℕ}
-use native.Mathlib.Omega.{arith}
-use mathlib.Core.Path.{_≡_, refl}
-use mathlib.Core.List.{List}
-use lib.ListN.{length}
-use Rattle.notation.specs.Walk.{Flag}
-use Rattle.notation.specs.Guard.{Guard, connectives}
-use Rattle.notation.specs.Triplets.{literal}
-use Rattle.notation.specs.Reading.{Reading, refusal, guard}
-use Rattle.notation.specs.Service.{refusedWith, guardWith, GuardRead, ParseSays}
-=======
 use Prim.Native.Nat.{ℕ, zero, suc, _+_, _-_, _*_, _≤_, _<_}
 use native.Mathlib.Omega.{arith}
 use native.Mathlib.Numerals.{add-one}
@@ -30,17 +18,13 @@ use Rattle.notation.specs.Reading.{Reading, refusal, guard, reading}
 use Rattle.notation.specs.Cut.{part}
 use Rattle.notation.specs.Codes.{startOf, endOf, flagAt, flagsIn, InText}
 use Rattle.notation.specs.Service.{refusedWith, guardWith, GuardRead, ParseSays, readAnswer, roomAfter, ReadSays, unnamed, nameIn, nameAnswer, partOf, Spans, namedIn}
->>>>>>> read
 use Rattle.notation.specs.declared.refusal.Refusal.{Refusal}
 use Rattle.notation.specs.declared.parse.Guard as counted
 use Rattle.notation.specs.declared.parse.Parsed.{Parsed}
 use Rattle.notation.specs.declared.parse.Parsed.the-variants as parsed
-<<<<<<< HEAD
-=======
 use Rattle.notation.specs.declared.name.Named.{Named}
 use Rattle.notation.specs.declared.name.Named.the-variants as named
 use Rattle.notation.proofs.Coding.{flags-length, flags-split}
->>>>>>> read
 
 -- what was read, where parse answers a guard
 pub record Found (text : List ℕ) (R : Reading) (x : counted.Guard) (codes out : List ℕ) : Type 0 where
@@ -71,8 +55,6 @@ refusal-found text (refusal k p) r codes out s f e =
 refusal-found text (guard g u) r codes out s f e =
     let a : r ≡ guardWith (length u) (connectives g) (literal 0 g) = s .answer in
     let z : _≡_ {A = ℕ} 0 1 = cc in absurd (omega arith)
-<<<<<<< HEAD
-=======
 
 -- ---- read
 -- one more number copied
@@ -193,4 +175,3 @@ read-unique text room a b o p s t = (s .answer ∙ sym (t .answer), s .left ∙ 
 
 pub name-unique : (text : List ℕ) (i : ℕ) (a b : Named) → a ≡ nameAnswer (reading text) i → b ≡ nameAnswer (reading text) i → a ≡ b
 name-unique text i a b s t = s ∙ sym t
->>>>>>> read
