@@ -13,5 +13,4 @@ pub mod Operands
 pub mod Joining
 pub mod Nesting
 pub mod Parsing
-pub mod Examples
 pub mod Serving

@@ -12,10 +12,10 @@ use Rattle.notation.specs.Tokens.{Tokens, Sign, opening, bang, at as tok
 use Rattle.notation.specs.Walk.{Flag, refused, walk, operand, after, within}
 use Rattle.notation.specs.Guard.{Guard, negated, connectives}
 use Rattle.notation.specs.Grammar.{Level, Parsed, found, follow, past, closed, operandOf, inBrackets, sameOf, toTheRight, rightLevel}
-use Rattle.notation.specs.Triplets.{Triplet, literal, triplets, numbers, negation}
+use Rattle.notation.specs.Triplets.{Triplet, literal, triplets, numbers, negation, literalCeiling}
 use Rattle.notation.specs.Cut.{aheadAs, ahead, ends}
 use Rattle.notation.specs.Codes.{flagsIn, InText}
-use Rattle.notation.specs.Levels.{plain, bangs, turned, literalCeiling, TokenFits, Standing, AdvancedSays, ClosedSays, FoundPart, LevelSays, operandsAt}
+use Rattle.notation.specs.Levels.{plain, bangs, turned, TokenFits, Standing, AdvancedSays, ClosedSays, FoundPart, LevelSays, operandsAt}
 use Rattle.notation.specs.declared.refusal.Refusal.{Refusal}
 use Rattle.notation.specs.declared.tokens.Kind.{Kind}
 use Rattle.notation.specs.declared.tokens.Kind.the-variants as kind

@@ -12,10 +12,10 @@ use Rattle.notation.specs.Tokens.{Tokens, Sign, same, implies, or, and, 
 use Rattle.notation.specs.Walk.{Flag, refused, walk, operand, after, within, known, seen}
 use Rattle.notation.specs.Guard.{Guard, flag, truth, connectives}
 use Rattle.notation.specs.Grammar.{Level, found, number, past, closed, operandOf}
-use Rattle.notation.specs.Triplets.{literal, triplets, numbers}
+use Rattle.notation.specs.Triplets.{literal, triplets, numbers, literalCeiling}
 use Rattle.notation.specs.Cut.{part, aheadAs, ahead, ends}
 use Rattle.notation.specs.Codes.{flagsIn, flagAt, InText, PlaceOf, entered}
-use Rattle.notation.specs.Levels.{binding, joins, closes, literalCeiling, Standing, AdvancedSays, ClosedSays, AtomSays}
+use Rattle.notation.specs.Levels.{binding, joins, closes, Standing, AdvancedSays, ClosedSays, AtomSays}
 use Rattle.notation.specs.declared.tokens.Kind.{Kind}
 use Rattle.notation.specs.declared.tokens.Kind.the-variants as kind
 use Rattle.notation.specs.declared.levels.At.{At}

@@ -9,8 +9,8 @@ use lib.ListN.{length-append, length, take, drop}
 use lib.Seq.{take-at, length-take-le, sets-eq}
 use Rattle.notation.specs.Tokens.{Sign, same, implies, or, and}
 use Rattle.notation.specs.Guard.{Guard, joined, connectives}
-use Rattle.notation.specs.Triplets.{Triplet, tripletOf, literalOf, literal, triplets, numbers, tripletVariable}
-use Rattle.notation.specs.Levels.{Writes, putAt, tripletAt, literalCeiling}
+use Rattle.notation.specs.Triplets.{Triplet, tripletOf, literalOf, literal, triplets, numbers, tripletVariable, literalCeiling}
+use Rattle.notation.specs.Levels.{Writes, putAt, tripletAt}
 
 -- a triplet's kind, y and z depend on the sign, and y and z on one side each
 pub parts : (s : Sign) (out : List ℕ) (c l r k y z : ℕ) → k ≡ (tripletOf s 0 0) .kind → y ≡ (tripletOf s l 0) .y → z ≡ (tripletOf s 0 r) .z →

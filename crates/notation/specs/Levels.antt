@@ -10,7 +10,7 @@ use Rattle.notation.specs.Tokens.{Tokens, Sign}
 use Rattle.notation.specs.Walk.{Flag, Outcome, refused, walk, operand, after}
 use Rattle.notation.specs.Guard.{Guard, connectives}
 use Rattle.notation.specs.Grammar.{Level, found, signNext, past, sameSign, closed, operandOf, inBrackets, andOf, orOf, toTheRight, sameOf}
-use Rattle.notation.specs.Triplets.{Triplet, literal, triplets, numbers, tripletVariable, tripletOf, literalOf}
+use Rattle.notation.specs.Triplets.{Triplet, literal, triplets, numbers, tripletVariable, tripletOf, literalOf, literalCeiling}
 use Rattle.notation.specs.Cut.{ahead, ends, signOf, FaultyHere}
 use Rattle.notation.specs.Codes.{flagsIn, InText}
 use Rattle.notation.specs.declared.refusal.Refusal.{Refusal}
@@ -34,10 +34,6 @@ binding tokens.same = 4
 -- the literal, negated where odd is 1
 unfoldable pub turned : ℕ → ℕ → ℕ
 turned odd l = 2 * (l / 2) + (l + odd) % 2
-
--- the largest literal of a guard
-abbrev pub literalCeiling : ℕ
-literalCeiling = 2 * tripletVariable connectiveCeiling + 1
 
 -- a triplet written after c others
 abbrev pub putAt : List ℕ → ℕ → ℕ → ℕ → ℕ → List ℕ

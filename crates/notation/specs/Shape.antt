@@ -3,8 +3,9 @@ use Prim.Native.Nat.{ℕ, _+_, _*_, _/_, _≤_, _<_}
 use mathlib.Core.Logic.{_⊎_}
 use mathlib.Core.List.{List, [], _∷_}
 use lib.ListN.{length, getD}
-use Rattle.notation.specs.Guard.{Guard, flag, truth, negated, joined}
-use Rattle.notation.specs.Triplets.{Triplet, tripletVariable}
+use mathlib.Core.Path.{_≡_}
+use Rattle.notation.specs.Guard.{Guard, flag, truth, negated, joined, connectives}
+use Rattle.notation.specs.Triplets.{tripletVariable, literalCeiling, literal, triplets, numbers}
 
 -- the literal l is, with either sign, true, a flag of 1 to n, or one of the first c triplets
 abbrev pub Names : ℕ → ℕ → ℕ → Type 0
@@ -32,3 +33,12 @@ FlagsWithin n (flag i) = (0 < i) × (i ≤ n)
 FlagsWithin n (truth b) = Unit {0}
 FlagsWithin n (negated g) = FlagsWithin n g
 FlagsWithin n (joined c g h) = FlagsWithin n g × FlagsWithin n h
+
+-- what reading writes: as many triplets as two-sided connectives, each of kind 0 or 1 over operands that are known before it, and no literal over the largest
+pub record Shapely (n : ℕ) (g : Guard) : Type 0 where
+  pub count : length (triplets 0 g) ≡ connectives g
+  pub shape : Shape n (connectives g) (numbers (triplets 0 g))
+  pub root : Names n (connectives g) (literal 0 g)
+  pub small : literal 0 g ≤ literalCeiling
+  pub ys : (j : ℕ) → j < connectives g → yAt (numbers (triplets 0 g)) j ≤ literalCeiling
+  pub zs : (j : ℕ) → j < connectives g → zAt (numbers (triplets 0 g)) j ≤ literalCeiling

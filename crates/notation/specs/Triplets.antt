@@ -2,7 +2,7 @@
 use Prim.Native.Nat.{ℕ, _+_, _*_, _/_, _%_}
 use mathlib.Core.Bool.{Bool, true, false}
 use mathlib.Core.List.{List, [], _∷_, _++_}
-use Rattle.notation.specs.Ceilings.{flagCeiling}
+use Rattle.notation.specs.Ceilings.{flagCeiling, connectiveCeiling}
 use Rattle.notation.specs.Tokens.{Sign, same, implies, or, and}
 use Rattle.notation.specs.Guard.{Guard, flag, truth, negated, joined, connectives}
 
@@ -15,6 +15,10 @@ pub record Triplet : Type 0 where
 -- the variable of triplet j, counted from 1: it stands above all flags
 abbrev pub tripletVariable : ℕ → ℕ
 tripletVariable j = flagCeiling + j
+
+-- the largest literal of a guard
+abbrev pub literalCeiling : ℕ
+literalCeiling = 2 * tripletVariable connectiveCeiling + 1
 
 -- the negation of a literal: 2v and 2v + 1 change places
 unfoldable pub negation : ℕ → ℕ

@@ -19,7 +19,8 @@ ghost use Rattle.notation.specs.Grammar.{sameSign, toTheRight, sameOf, o
 ghost use Rattle.notation.specs.Cut.{ends, signOf};
 ghost use Rattle.notation.specs.Ceilings.{connectiveCeiling, flagCeiling};
 ghost use Rattle.notation.specs.Triplets.{tripletOf};
-ghost use Rattle.notation.specs.Levels.{TokenFits, Standing, AdvancedSays, PastSignSays, AtomSays, ClosedSays, LevelAsks, LevelSays, plain, operandsAt, passedOn, kindIs, joins, bangs, closes, binding, literalCeiling, joinedPart, tripletAt};
+ghost use Rattle.notation.specs.Levels.{TokenFits, Standing, AdvancedSays, PastSignSays, AtomSays, ClosedSays, LevelAsks, LevelSays, plain, operandsAt, passedOn, kindIs, joins, bangs, closes, binding, joinedPart, tripletAt};
+ghost use Rattle.notation.specs.Triplets.{literalCeiling};
 
 // Where the reader stands: the token ahead, and how many flags, signs and triplets lie behind.
 pub struct At {
