@@ -1,25 +1,19 @@
 -- A block: the rows have the value of the triplets in every state of a stretch.
-use Prim.Native.Nat.{ℕ, zero, suc, _+_, _*_, _-_, _/_, _%_, _^_, _≤_, _<_}
-use mathlib.Core.Path.{_≡_, sym, ap, ap₂, _∙_}
+use Prim.Native.Nat.{ℕ, suc, _+_, _*_, _-_, _/_, _%_, _^_, _≤_, _<_}
+use mathlib.Core.Path.{_≡_, sym, ap, _∙_}
 use mathlib.Core.Bool.{Bool}
 use mathlib.Core.List.{List}
-use mathlib.Core.Logic.{⊎-elim}
 use native.Mathlib.Omega.{arith}
 use native.Mathlib.Nat.{div-add-mod'}
 use lib.Pow.{field, mod-mod-pow, low}
-use Rattle.notation.specs.Ceilings.{flagCeiling}
-use Rattle.notation.specs.Triplets.{tripletVariable}
-use Rattle.notation.specs.Shape.{Names, Shape, kindAt, yAt, zAt}
 use Rattle.truth.specs.Value.{bit}
-use Rattle.truth.specs.Computed.{literalValue, gate, computed, Valued}
-use Rattle.truth.proofs.Literals.{literal-agrees}
-use Rattle.truth.proofs.Computing.{valued}
+use Rattle.truth.specs.Computed.{literalValue, computed, Valued, rootValue, Triplets}
+use Rattle.truth.proofs.Computing.{valued, valued-unique}
 use Rattle.gaps.specs.declared.writing.Found.{Found}
 use Rattle.gaps.specs.Gaps.{falseFrom}
 use Rattle.gaps.specs.Rows.{inRow, Evaluated}
 use Rattle.gaps.specs.Writing.{Writes, since}
-use Rattle.gaps.specs.Walking.{rootValue, Triplets, Walked}
-use Rattle.gaps.proofs.Fixes.{named-cases}
+use Rattle.gaps.specs.Walking.{Walked}
 use Rattle.gaps.proofs.Evaluating.{flags-kept}
 use Rattle.gaps.proofs.Since.{since-same}
 
@@ -35,29 +29,6 @@ bit-low s n p h =
 -- a stretch starts at a multiple
 pub multiple : (base n : ℕ) → base % 2 ^ n ≡ 0 → base ≡ base / 2 ^ n * 2 ^ n
 multiple base n e = let d : base / 2 ^ n * 2 ^ n + base % 2 ^ n ≡ base = div-add-mod' base (2 ^ n) in omega arith
-
--- two valuations of the same triplets in the same state agree on what is named
-pub valued-unique : (n s c : ℕ) (xs : List ℕ) (v w : ℕ → Bool) → n ≤ flagCeiling → Shape n c xs → Valued n s c xs v → Valued n s c xs w
-    → (j : ℕ) → j ≤ c → (l : ℕ) → Names n j l → literalValue v l ≡ literalValue w l
-valued-unique n s c xs v w small shape p q zero h l m =
-    ⊎-elim
-    (λ (b : l / 2 ≤ n). literal-agrees v w l (at (l / 2) b))
-    (λ (b : (tripletVariable 0 < l / 2) × (l / 2 ≤ tripletVariable 0)). absurd (omega arith))
-    m
-  where
-    at : (i : ℕ) → i ≤ n → v i ≡ w i
-    at zero b = p .top ∙ sym (q .top)
-    at (suc i) b = p .flags (suc i) (omega arith) b ∙ sym (q .flags (suc i) (omega arith) b)
-valued-unique n s c xs v w small shape p q (suc j) h l m =
-    ⊎-elim
-    (λ (a : Names n j l). valued-unique n s c xs v w small shape p q j (omega arith) l a)
-    (λ (e : l / 2 ≡ tripletVariable (suc j)).
-    literal-agrees v w l
-    (rw e
-    (p .gates j h
-    ∙ ap₂ (gate (kindAt xs j)) (valued-unique n s c xs v w small shape p q j (omega arith) (yAt xs j) (shape .ys j h)) (valued-unique n s c xs v w small shape p q j (omega arith) (zAt xs j) (shape .zs j h))
-    ∙ sym (q .gates j h))))
-    (named-cases n j l small m)
 
 -- states that agree in their low bits have the same valuations
 valued-low : (n s t c : ℕ) (xs : List ℕ) (v : ℕ → Bool) → ((p : ℕ) → p < n → bit s p ≡ bit t p) → Valued n s c xs v → Valued n t c xs v

@@ -1,45 +1,12 @@
 -- The rows of all triplets, one after the other.
-use Prim.Native.Nat.{ℕ, suc, _/_, _≤_, _<_}
-use mathlib.Core.Path.{_≡_, refl, sym, ap₂, _∙_}
-use mathlib.Core.Bool.{Bool}
+use Prim.Native.Nat.{ℕ, suc, _≤_, _<_}
+use mathlib.Core.Path.{_≡_, refl, _∙_}
 use mathlib.Core.List.{List}
-use mathlib.Core.Logic.{⊎-elim}
 use native.Mathlib.Omega.{arith}
-use native.Mathlib.Nat.{eq-or-lt-of-le, le-of-suc-le-suc}
 use Rattle.notation.specs.Ceilings.{flagCeiling}
-use Rattle.notation.specs.Triplets.{tripletVariable}
-use Rattle.notation.specs.Shape.{Names, Shape, kindAt, yAt, zAt}
-use Rattle.truth.specs.Computed.{literalValue, gate, Valued}
-use Rattle.truth.proofs.Literals.{literal-agrees}
+use Rattle.notation.specs.Shape.{Shape}
+use Rattle.truth.proofs.Computing.{valued-more}
 use Rattle.gaps.specs.Rows.{inRow, TripletMade, FlagRows, Evaluated}
-
--- what is named before triplet j lies below it
-pub named-below : (n j l : ℕ) → n ≤ flagCeiling → Names n j l → l / 2 < tripletVariable (suc j)
-named-below n j l small m =
-    ⊎-elim
-    (λ (p : l / 2 ≤ n). omega arith)
-    (λ (p : (tripletVariable 0 < l / 2) × (l / 2 ≤ tripletVariable j)). omega arith)
-    m
-
-module _ (n s c : ℕ) (xs : List ℕ) (small : n ≤ flagCeiling) (shape : Shape n c xs) where
-  -- one more triplet gets its value, and nothing below it changes
-  pub valued-more : (j : ℕ) (v w : ℕ → Bool) → j < c → Valued n s j xs v
-      → ((u : ℕ) → u < tripletVariable (suc j) → w u ≡ v u)
-      → w (tripletVariable (suc j)) ≡ gate (kindAt xs j) (literalValue v (yAt xs j)) (literalValue v (zAt xs j))
-      → Valued n s (suc j) xs w
-  valued-more j v w h old kept made =
-      record {
-        top = kept 0 (omega arith) ∙ old .top;
-        flags = λ i p q. kept i (omega arith) ∙ old .flags i p q;
-        gates = λ k p. ⊎-elim (λ (e : k ≡ j). rw e (made ∙ both j h (omega arith))) (λ (l : k < j). kept (tripletVariable (suc k)) (omega arith) ∙ old .gates k l ∙ both k (omega arith) (omega arith)) (eq-or-lt-of-le (le-of-suc-le-suc p));
-      }
-    where
-      both : (k : ℕ) → k < c → k ≤ j
-          → gate (kindAt xs k) (literalValue v (yAt xs k)) (literalValue v (zAt xs k)) ≡ gate (kindAt xs k) (literalValue w (yAt xs k)) (literalValue w (zAt xs k))
-      both k l b =
-          ap₂ (gate (kindAt xs k))
-          (literal-agrees v w (yAt xs k) (sym (kept (yAt xs k / 2) (omega (arith, named-below n k (yAt xs k) small (shape .ys k l))))))
-          (literal-agrees v w (zAt xs k) (sym (kept (zAt xs k / 2) (omega (arith, named-below n k (zAt xs k) small (shape .zs k l))))))
 
 pub evaluated-none : (n width : ℕ) (xs rows : List ℕ) → FlagRows n width rows → Evaluated n width xs 0 rows rows
 evaluated-none n width xs rows f =

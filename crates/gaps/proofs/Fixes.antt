@@ -13,23 +13,8 @@ use Rattle.notation.specs.Shape.{Names, Shape, kindAt, yAt, zAt}
 use Rattle.truth.specs.Value.{bit}
 use Rattle.truth.specs.Computed.{literalValue, gate, computed}
 use Rattle.truth.proofs.Literals.{parity, literal-even, literal-odd, literal-negation, literal-agrees}
-use Rattle.truth.proofs.Computing.{named-kept, valued, computed-same, triplet-made, flag-kept, true-at-start, flag-at-start}
+use Rattle.truth.proofs.Computing.{named-kept, named-cases, valued, computed-same, triplet-made, flag-kept, true-at-start, flag-at-start}
 use Rattle.gaps.specs.Fixing.{Stands, Fixing, Fixed}
-
--- what is named before triplet j + 1 was named before j, or is triplet j itself
-pub named-cases : (n j l : ℕ) → n ≤ flagCeiling → Names n (suc j) l → Names n j l ⊎ (l / 2 ≡ tripletVariable (suc j))
-named-cases n j l small m =
-    ⊎-elim
-    (λ (p : l / 2 ≤ n). inl (inl p))
-    (λ (p : (tripletVariable 0 < l / 2) × (l / 2 ≤ tripletVariable (suc j))).
-    ⊎-elim
-    (λ (e : l / 2 ≡ tripletVariable (suc j)). inr e)
-    (λ (h : l / 2 < tripletVariable (suc j)). inl (inr (p .0, lower (l / 2) h)))
-    (eq-or-lt-of-le (p .1)))
-    m
-  where
-    lower : (k : ℕ) → k < tripletVariable (suc j) → k ≤ tripletVariable j
-    lower k h = omega arith
 
 pub named-more : (n j k l : ℕ) → j ≤ k → Names n j l → Names n k l
 named-more n j k l h m =

@@ -12,15 +12,15 @@ use Rattle.notation.specs.Reading.{refusal, reading}
 use Rattle.notation.specs.declared.refusal.Refusal.{Refusal}
 use Rattle.notation.specs.declared.parse.Guard as counted
 use Rattle.notation.proofs.Serving as serving
-use Rattle.truth.proofs.Written.{read-flags, read-begins, read-short}
+use Rattle.truth.specs.Computed.{rootValue, Triplets}
+use Rattle.truth.proofs.Written.{read-flags, read-begins, read-triplets}
 use Rattle.gaps.specs.declared.writing.Found.{Found}
 use Rattle.gaps.specs.declared.listing.Listing.{Listing}
 use Rattle.gaps.specs.declared.listing.Listing.the-variants.{Gaps, Refused}
 use Rattle.gaps.specs.Gaps.{falseFrom, gapsFrom}
-use Rattle.gaps.specs.Writing.{found, placed, Writes}
-use Rattle.gaps.specs.Walking.{rootValue, Triplets}
+use Rattle.gaps.specs.Writing.{Writes}
 use Rattle.gaps.specs.Listed.{listed, filled, Lists}
-use Rattle.gaps.proofs.OfGuard.{guard-searchable, guard-gaps}
+use Rattle.gaps.proofs.OfGuard.{guard-gaps}
 
 module _ (text : List ℕ) (start : ℕ) (out : List ℕ) where
   pub lists-refusal : (f : Refusal) → reading text ≡ refusal (f .number) (f .place) → Lists text start out (Refused f) out
@@ -38,9 +38,8 @@ module _ (text : List ℕ) (start : ℕ) (out : List ℕ) where
     pub lists-searchable : length xs ≡ 3 * connectiveCeiling → ltb start (2 ^ x .flags) ≡ true
         → Triplets (x .flags) xs (x .count) (x .root) × (start ≤ 2 ^ x .flags)
     lists-searchable long h =
-        let short : x .count ≤ connectiveCeiling = read-short text x codes xs f in
         let soon : start < 2 ^ x .flags = ltb-true start (2 ^ x .flags) h in
-        (guard-searchable (x .flags) (x .count) (x .root) (f .tree) xs (read-begins text x codes xs f) short (omega arith), omega arith)
+        (read-triplets text x codes xs f long, omega arith)
 
     pub lists-gaps : ltb start (2 ^ x .flags) ≡ true → (r : Found) (after : List ℕ)
         → Writes out 0 (falseFrom (rootValue (x .flags) xs (x .count) (x .root)) start (2 ^ x .flags - start)) r after → Lists text start out (Gaps r) after

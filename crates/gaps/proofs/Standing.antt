@@ -16,7 +16,7 @@ use Rattle.truth.proofs.Literals.{literal-even, literal-odd, literal-negation}
 use Rattle.notation.specs.Ceilings.{flagCeiling}
 use Rattle.notation.specs.Shape.{Names, kindAt, yAt, zAt}
 use Rattle.gaps.specs.Fixing.{Stands, Simplified, Put, StartedBy, TripletFixed, Fixing}
-use Rattle.gaps.proofs.Evaluating.{named-below}
+use Rattle.truth.proofs.Computing.{named-below}
 use Rattle.gaps.proofs.Fixes.{negation-of, Started, fixing-stands, fixing-new}
 
 module _ (v : ℕ → Bool) (t : v 0 ≡ true) where

@@ -12,7 +12,7 @@ use lib.Dec.{eqb, ltb}
 use Rattle.notation.specs.Tokens.{choose}
 use Rattle.notation.specs.Ceilings.{flagCeiling, connectiveCeiling}
 use Rattle.truth.specs.Value.{bit}
-use Rattle.truth.specs.Computed.{computed}
+use Rattle.truth.specs.Computed.{computed, rootValue, Triplets}
 use Rattle.truth.proofs.Literals.{literal-even}
 use Rattle.truth.proofs.Computing.{flag-kept, true-at-start}
 use Rattle.gaps.specs.declared.writing.Found.{Found}
@@ -22,7 +22,7 @@ use Rattle.notation.specs.Triplets.{tripletVariable}
 use Rattle.gaps.specs.Rows.{FlagRows, FlagsMade}
 use Rattle.gaps.specs.Writing.{Writes, since}
 use Rattle.gaps.specs.Fixing.{Fixed}
-use Rattle.gaps.specs.Walking.{rootValue, Triplets, Rows, Stretch, Walked}
+use Rattle.gaps.specs.Walking.{Rows, Stretch, Walked}
 use Rattle.gaps.proofs.Ascending.{false-none, false-parts}
 use Rattle.gaps.proofs.Since.{since-same, since-none, since-whole}
 use Rattle.gaps.proofs.Blocks.{multiple}

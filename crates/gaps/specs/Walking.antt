@@ -1,29 +1,15 @@
 -- What the walk over the states asks and promises.
-use Prim.Native.Nat.{ℕ, suc, _+_, _*_, _%_, _^_, _≤_, _<_}
+use Prim.Native.Nat.{ℕ, suc, _+_, _*_, _%_, _^_, _≤_}
 use mathlib.Core.Path.{_≡_}
 use mathlib.Core.Bool.{Bool}
 use mathlib.Core.List.{List}
 use lib.ListN.{length}
-use Rattle.notation.specs.Ceilings.{flagCeiling, connectiveCeiling}
+use Rattle.notation.specs.Ceilings.{connectiveCeiling}
 use Rattle.notation.specs.Triplets.{tripletVariable}
-use Rattle.notation.specs.Shape.{Names, Shape}
-use Rattle.truth.specs.Value.{bit}
-use Rattle.truth.specs.Computed.{literalValue, computed}
 use Rattle.gaps.specs.declared.writing.Found.{Found}
 use Rattle.gaps.specs.Gaps.{falseFrom}
 use Rattle.gaps.specs.Rows.{FlagRows}
 use Rattle.gaps.specs.Writing.{Writes, since}
-
--- the value of the c triplets of xs, over n flags, at the literal root
-unfoldable pub rootValue : ℕ → List ℕ → ℕ → ℕ → ℕ → Bool
-rootValue n xs c root s = literalValue (computed n s xs c) root
-
--- triplets over n flags with a root that they name
-pub record Triplets (n : ℕ) (xs : List ℕ) (c root : ℕ) : Type 0 where
-  pub flags : n ≤ flagCeiling
-  pub count : (c ≤ connectiveCeiling) × (3 * c ≤ length xs)
-  pub shape : Shape n c xs
-  pub named : Names n c root
 
 -- rows of so many words for all variables, with room for the states of so many flags, whose rows are right
 pub record Rows (low width : ℕ) (rows : List ℕ) : Type 0 where

@@ -4,9 +4,9 @@ use crate::walk::block;
 use crate::walk::walk;
 use crate::writing::Found;
 ghost use Prim.Native.Nat.{_^_, _-_, _≤_, _<_};
+ghost use Rattle.truth.specs.Computed.{rootValue, Triplets};
 ghost use Rattle.gaps.specs.Gaps.{falseFrom};
 ghost use Rattle.gaps.specs.Writing.{Writes};
-ghost use Rattle.gaps.specs.Walking.{rootValue, Triplets};
 
 // What a row holds before it is made is never read; a fill of unequal bytes is a plain loop, where one of equal bytes may
 // become a call that is dear for a guard of few flags.

@@ -2,13 +2,11 @@
 //
 // Whether the relation is contradictory is kept in the array too: variable 0, true, then leads to literal 1, false. So a
 // function that is lent the array alone can make the relation contradictory, and a caller sees it with one look.
+use notation::ceilings::VARIABLES;
 ghost use mathlib.Core.Path.{_≡_};
 ghost use Prim.Native.Nat.{_+_, _*_, _/_, _<_, _^_};
 ghost use Rattle.relation.specs.Classes.{variableCeiling, signed, entry, kept};
 ghost use Rattle.relation.specs.Contracts.{Fresh, Led, Lower, tied};
-
-// True, the flags and the triplets.
-pub const VARIABLES: usize = 280;
 
 // Each variable with the literal of the lowest variable of its class.
 pub struct Relation {

@@ -1,7 +1,7 @@
 // Joining two classes, in place: no second array is held.
-use crate::classes::VARIABLES;
 use crate::classes::lead;
 use crate::classes::turned;
+use notation::ceilings::VARIABLES;
 ghost use mathlib.Core.Path.{_≡_};
 ghost use Prim.Native.Nat.{_+_, _/_, _<_, _^_};
 ghost use Rattle.relation.specs.Classes.{Classes, moved, entry};

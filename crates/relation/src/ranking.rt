@@ -1,5 +1,5 @@
 // The rank of a relation, and whether two relations are the same.
-use crate::classes::VARIABLES;
+use notation::ceilings::VARIABLES;
 ghost use mathlib.Core.Path.{_≡_};
 ghost use mathlib.Core.Bool.{true, false};
 ghost use Prim.Native.Nat.{_<_};

@@ -1,6 +1,6 @@
 // What two relations share, in place.
-use crate::classes::VARIABLES;
 use crate::classes::turned;
+use notation::ceilings::VARIABLES;
 ghost use mathlib.Core.Path.{_≡_};
 ghost use Prim.Native.Nat.{_+_, _*_, _/_, _<_, _^_, max};
 ghost use mathlib.Core.Bool.{false};

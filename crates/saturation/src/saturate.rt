@@ -1,5 +1,5 @@
 // Saturation at a depth. A split saturates both sides one less deep and keeps what they share.
-use relation::classes::VARIABLES;
+use notation::ceilings::VARIABLES;
 use relation::classes::is_tied;
 use relation::joining::join;
 use relation::ranking::size_of;

@@ -2,7 +2,7 @@
 use crate::step::step;
 use crate::table::ENTRIES;
 use crate::table::table;
-use relation::classes::VARIABLES;
+use notation::ceilings::VARIABLES;
 use relation::ranking::size_of;
 ghost use Prim.Native.Nat.{_+_, _*_, _<_};
 ghost use Rattle.relation.specs.Classes.{Classes};

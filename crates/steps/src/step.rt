@@ -1,7 +1,7 @@
 // One step on a triplet, in place: where it adds nothing, nothing is written.
 use crate::table::ENTRIES;
 use crate::table::entry_of;
-use relation::classes::VARIABLES;
+use notation::ceilings::VARIABLES;
 use relation::classes::lead;
 use relation::classes::turned;
 use relation::joining::join;

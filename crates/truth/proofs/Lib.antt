@@ -3,3 +3,5 @@ pub mod Computing
 pub mod Root
 pub mod Written
 pub mod Below
+pub mod Valuing
+pub mod Evaluated

@@ -15,7 +15,7 @@ use Rattle.notation.proofs.Accepted.{reading-within}
 use Rattle.notation.proofs.Serving.{Found}
 use Rattle.notation.proofs.Shaped.{shaped, root-named}
 use Rattle.truth.specs.Value.{value}
-use Rattle.truth.specs.Computed.{literalValue, computed}
+use Rattle.truth.specs.Computed.{computed, rootValue, Triplets}
 use Rattle.truth.proofs.Literals.{literal-agrees}
 use Rattle.truth.proofs.Computing.{computed-same}
 use Rattle.truth.proofs.Root.{root-value}
@@ -32,7 +32,7 @@ module _ (n c root : ℕ) (g : Guard) (xs : List ℕ) (b : Begins n c root g xs)
   agree : (k : ℕ) → k < 3 * c → getD xs k 0 ≡ getD (numbers (triplets 0 g)) k 0
   agree k h = sym (getD-take (3 * c) xs k 0 h) ∙ ap (λ (ys : List ℕ). getD ys k 0) (b .written)
 
-  pub written-shaped : Shape n c xs
+  written-shaped : Shape n c xs
   written-shaped =
       let s : Shape n c (numbers (triplets 0 g)) = rw (b .count) (shaped n g (b .within)) in
       record {
@@ -41,11 +41,16 @@ module _ (n c root : ℕ) (g : Guard) (xs : List ℕ) (b : Begins n c root g xs)
         zs = λ j h. rw (agree (3 * j + 2) (omega arith)) (s .zs j h);
       }
 
-  pub written-root : Names n c root
+  written-root : Names n c root
   written-root = rw (b .literal, b .count) (root-named n g (b .within))
 
+  -- they are triplets with a root, where there is room for them
+  pub written-triplets : c ≤ connectiveCeiling → 3 * c ≤ length xs → Triplets n xs c root
+  written-triplets short long = record { flags = b .few; count = (short, long); shape = written-shaped; named = written-root }
+
   -- what they compute at the root, in every state, is the guard's value
-  pub written-value : (s : ℕ) → literalValue (computed n s xs c) root ≡ value n s g
+  pub written-value : (s : ℕ) → rootValue n xs c root s ≡ value n s g
+  unfolding rootValue
   written-value s =
       literal-agrees (computed n s xs c) (computed n s (numbers (triplets 0 g)) c) root
       (computed-same n s c (numbers (triplets 0 g)) xs agree (root / 2))
@@ -70,5 +75,8 @@ module _ (text : List ℕ) (x : counted.Guard) (codes xs : List ℕ) (f : Found 
         written = rw read-count (f .read .written);
       }
 
-  pub read-short : x .count ≤ connectiveCeiling
-  read-short = rw read-count (f .read .short)
+  -- and its triplets with their root, in a table for as many as there may be
+  pub read-triplets : length xs ≡ 3 * connectiveCeiling → Triplets (x .flags) xs (x .count) (x .root)
+  read-triplets long =
+      let short : x .count ≤ connectiveCeiling = rw read-count (f .read .short) in
+      written-triplets (x .flags) (x .count) (x .root) (f .tree) xs read-begins short (omega arith)

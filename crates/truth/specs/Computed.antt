@@ -1,13 +1,14 @@
 -- What a list of triplets computes in a state.
-use Prim.Native.Nat.{ℕ, zero, suc, _-_, _/_, _%_, _≤_, _<_}
+use Prim.Native.Nat.{ℕ, zero, suc, _*_, _-_, _/_, _%_, _≤_, _<_}
 use mathlib.Core.Path.{_≡_}
-use mathlib.Core.Bool.{Bool, true, false, not}
+use mathlib.Core.Bool.{Bool, true, not}
 use mathlib.Core.List.{List}
+use lib.ListN.{length}
 use lib.Dec.{eqb}
+use Rattle.notation.specs.Ceilings.{flagCeiling, connectiveCeiling}
 use Rattle.notation.specs.Tokens.{same, implies, choose}
-use Rattle.notation.specs.Guard.{Guard, flag, truth, negated, joined}
 use Rattle.notation.specs.Triplets.{tripletVariable}
-use Rattle.notation.specs.Shape.{kindAt, yAt, zAt}
+use Rattle.notation.specs.Shape.{Names, Shape, kindAt, yAt, zAt}
 use Rattle.truth.specs.Value.{bit, table}
 
 -- the value of a literal, where v gives the values of variables: 2v is variable v, 2v + 1 its negation
@@ -33,3 +34,14 @@ pub record Valued (n s c : ℕ) (xs : List ℕ) (v : ℕ → Bool) : Type 0 wher
   pub top : v 0 ≡ true
   pub flags : (i : ℕ) → 0 < i → i ≤ n → v i ≡ bit s (n - i)
   pub gates : (j : ℕ) → j < c → v (tripletVariable (suc j)) ≡ gate (kindAt xs j) (literalValue v (yAt xs j)) (literalValue v (zAt xs j))
+
+-- the value of the c triplets of xs, over n flags, at the literal root
+unfoldable pub rootValue : ℕ → List ℕ → ℕ → ℕ → ℕ → Bool
+rootValue n xs c root s = literalValue (computed n s xs c) root
+
+-- triplets over n flags with a root that they name
+pub record Triplets (n : ℕ) (xs : List ℕ) (c root : ℕ) : Type 0 where
+  pub flags : n ≤ flagCeiling
+  pub count : (c ≤ connectiveCeiling) × (3 * c ≤ length xs)
+  pub shape : Shape n c xs
+  pub named : Names n c root

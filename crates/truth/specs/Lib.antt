@@ -1,2 +1,4 @@
 pub mod Value
 pub mod Computed
+pub mod Values
+pub mod Evaluated

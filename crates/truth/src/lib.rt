@@ -1,2 +1,4 @@
 // What a guard means.
+pub mod evaluate;
 pub mod states;
+pub mod values;

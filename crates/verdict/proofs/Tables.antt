@@ -12,7 +12,8 @@ use Rattle.notation.specs.Guard.{Guard, connectives}
 use Rattle.notation.specs.Triplets.{tripletVariable, literal, triplets, numbers}
 use Rattle.notation.proofs.Cases.{either, split-eq}
 use Rattle.truth.specs.Value.{value}
-use Rattle.truth.proofs.Written.{Begins}
+use Rattle.truth.specs.Computed.{rootValue, Triplets}
+use Rattle.truth.proofs.Written.{Begins, written-triplets, written-value}
 use Rattle.notation.proofs.Shaped.{count-triplets}
 use Rattle.steps.specs.Contracts.{inUse, tripletsAt}
 use Rattle.steps.proofs.Resting.{readable-from}
@@ -22,9 +23,7 @@ use Rattle.saturation.specs.Answer.{Answer}
 use Rattle.saturation.proofs.Confirmed.{full-covered, full-gap}
 use Rattle.gaps.specs.Gaps.{falseFrom}
 use Rattle.gaps.specs.Writing.{found, Writes}
-use Rattle.gaps.specs.Walking.{rootValue, Triplets}
 use Rattle.gaps.proofs.Ascending.{false-not, false-one}
-use Rattle.gaps.proofs.OfGuard.{guard-searchable, guard-value}
 use Rattle.verdict.specs.Check.{GuardSays, verdictOf}
 use Rattle.verdict.specs.Decision.{FromGuard, Askable, Decided, FullyDecided, firstGap, meant}
 use Rattle.gaps.specs.declared.writing.Found.{Found}
@@ -104,7 +103,7 @@ module _ (xs : List ℕ) (c n root : ℕ) (from : FromGuard xs c n root) where
       }
 
   pub searchable : Triplets n xs c root
-  searchable = guard-searchable n c root g xs begins (from .few) (from .long)
+  searchable = written-triplets n c root g xs begins (from .few) (from .long)
 
   root-known : root / 2 < inUse c
   root-known =
@@ -121,7 +120,7 @@ module _ (xs : List ℕ) (c n root : ℕ) (from : FromGuard xs c n root) where
       }
 
   its-value : (s : ℕ) → rootValue n xs c root s ≡ value n s g
-  its-value = guard-value n c root g xs begins
+  its-value = written-value n c root g xs begins
 
   its-answer : (k : ℕ) (r : Decision) → Answer (Flags n) (triplets 0 g) (literal 0 g) k n (meant r) → Decided xs c n root k r
   its-answer = at-guard xs c n root g (from .count) (from .literal) (from .written)

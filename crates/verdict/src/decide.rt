@@ -1,5 +1,5 @@
 // The answer for triplets, by saturation and the trial of flags.
-use relation::classes::VARIABLES;
+use notation::ceilings::VARIABLES;
 use relation::classes::equal;
 use relation::classes::fresh;
 use relation::classes::is_contradictory;

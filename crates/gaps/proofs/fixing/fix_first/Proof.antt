@@ -5,7 +5,7 @@ use native.Mathlib.Omega.{arith}
 use native.Mathlib.Numerals.{add-one}
 use lib.ListN.{length, getD}
 use Rattle.gaps.specs.Fixing.{Fixing}
-use Rattle.gaps.proofs.Evaluating.{named-below}
+use Rattle.truth.proofs.Computing.{named-below}
 use Rattle.gaps.proofs.Fixes.{fixing-start, fixing-done}
 use Rattle.gaps.proofs.Standing.{started, fixing-again, operand-below}
 use Rattle.gaps.proofs.fixing.fix_first.Statement.{statement}

@@ -6,7 +6,8 @@ use native.Mathlib.Numerals.{add-one}
 use native.Mathlib.Nat.{mul-le-mul-right, le-trans}
 use lib.ListN.{length}
 use Rattle.gaps.specs.Rows.{Evaluated}
-use Rattle.gaps.proofs.Evaluating.{named-below, evaluated-none, evaluated-more}
+use Rattle.truth.proofs.Computing.{named-below}
+use Rattle.gaps.proofs.Evaluating.{evaluated-none, evaluated-more}
 use Rattle.gaps.proofs.rows.evaluate.Statement.{statement}
 use Rattle.gaps.proofs.rows.evaluate.Tie as tie
 

@@ -3,7 +3,7 @@ use Prim.Native.Nat.{ℕ, suc, _+_, _*_, _≤_}
 use native.Mathlib.Omega.{arith}
 use native.Mathlib.Nat.{mul-le-mul-right, le-trans}
 use borrow.Author.Needs.{needs}
-use Rattle.gaps.proofs.Evaluating.{named-below}
+use Rattle.truth.proofs.Computing.{named-below}
 use Rattle.gaps.proofs.Blocks.{block-walked}
 use Rattle.gaps.proofs.walk.block.Statement.{statement}
 use Rattle.gaps.proofs.walk.block.Tie as tie
