@@ -98,6 +98,58 @@ fn long_texts() {
     reading_of(b"4,095 ! and A", &bangs[0..4096]);
 }
 
+// Truth in a state: the first flag is the highest bit.
+fn states() {
+    evaluating(b"A>B", 0);
+    evaluating(b"A>B", 1);
+    evaluating(b"A>B", 2);
+    evaluating(b"A>B", 3);
+    evaluating(b"A>B", 4);
+    evaluating(b"B>A", 1);
+    evaluating(b"#0", 0);
+    evaluating(b"#1", 0);
+    evaluating(b"#1", 1);
+    evaluating(b"A&", 9);
+    evaluating(b"3E5|!300000", 1);
+    evaluating(b"A=B=C", 4);
+    evaluating(b"A>B>C", 4);
+}
+
+fn lists() {
+    listing(b"A=B", 0, &mut [9; 3]);
+    listing(b"A&B", 0, &mut [9; 4]);
+    listing(b"#0", 0, &mut [9; 1]);
+    listing(b"#1", 0, &mut [9; 1]);
+    listing(b"A=B", 0, &mut [9; 1]);
+    listing(b"A=B", 0, &mut [9; 0]);
+    listing(b"A=B", 2, &mut [9; 2]);
+    listing(b"A=B", 3, &mut [9; 2]);
+    listing(b"A=B", 4, &mut [9; 2]);
+    listing(b"A=B", 18446744073709551615, &mut [9; 2]);
+    listing(b"A=", 0, &mut [9; 2]);
+    listing(b"!a&((p>q)=(!q>!p))", 0, &mut [9; 5]);
+}
+
+// The lines of covercheck's sample, and depths at and past their ceiling.
+fn verdicts() {
+    checking(b"A|!A", 0);
+    checking(b"A>B", 0);
+    checking(b"(p>q)=(!q>!p)", 0);
+    checking(b"(p>q)=(!q>!p)", 1);
+    checking(b"3E5|!300000", 0);
+    checking(b"A&", 0);
+    checking(b"#0", 0);
+    checking(b"#1", 0);
+    checking(b"(((p>p)>p)>(p>q))>(((p>q)>p)>q)", 0);
+    checking(b"(A&B)|(!A|!B)", 0);
+    checking(b"!a&((p>q)=(!q>!p))", 0);
+    checking(b"!a&((p>q)=(!q>!p))", 1);
+    checking(b"A=B", 0);
+    checking(b"A=B", 24);
+    checking(b"A=B", 25);
+    checking(b"A=", 25);
+}
+
 fn main() {
     refusals();
     strange_bytes();
@@ -105,4 +157,7 @@ fn main() {
     rooms();
     ceilings();
     long_texts();
+    states();
+    lists();
+    verdicts();
 }

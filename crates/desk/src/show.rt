@@ -1,4 +1,7 @@
 // Prints a text and what a service answers for it, one line each.
+use gaps::list::list;
+use gaps::listing::Listing;
+use gaps::writing::Found;
 use notation::ceilings::TRIPLETS_ROOM;
 use notation::name::Named;
 use notation::name::name;
@@ -7,6 +10,10 @@ use notation::parse::Guard;
 use notation::parse::Parsed;
 use notation::read::read;
 use notation::refusal::Refusal;
+use truth::evaluate::Evaluation;
+use truth::evaluate::evaluate;
+use verdict::check::check;
+use verdict::verdicts::Verdict;
 
 fn say(bytes: &[u8]) {
     io::write_all(1, bytes);
@@ -96,4 +103,98 @@ pub fn naming(text: &[u8], i: u64) {
     say(b" ");
     say(text);
     say_named(text, name(text, i));
+}
+
+fn say_value(value: bool) {
+    if value {
+        say(b" true\n");
+        return;
+    }
+    say(b" false\n");
+}
+
+fn say_evaluation(evaluation: Evaluation) {
+    match evaluation {
+        Evaluation::Value(value) => say_value(value),
+        Evaluation::Refused(refusal) => {
+            say_refusal(refusal);
+            say(b"\n");
+        }
+    }
+}
+
+// What evaluate answers in a state.
+pub fn evaluating(text: &[u8], state: u64) {
+    say(b"evaluate");
+    say_number(state);
+    say(b" ");
+    say(text);
+    say_evaluation(evaluate(text, state));
+}
+
+fn say_found(found: Found) {
+    match found {
+        Found::Done(written) => {
+            say_number(written as u64);
+            say(b" done");
+        }
+        Found::More { written, next } => {
+            say_number(written as u64);
+            say(b" more");
+            say_number(next);
+        }
+    }
+}
+
+fn say_listing(listing: Listing) {
+    match listing {
+        Listing::Gaps(found) => say_found(found),
+        Listing::Refused(refusal) => say_refusal(refusal),
+    }
+}
+
+fn say_state(n: u32) {
+    say_number(n as u64);
+}
+
+fn say_states(out: &[u32]) {
+    say(b" :");
+    let mut i = 0;
+    while i < out.len() {
+        say_state(out[i]);
+        i += 1;
+    }
+}
+
+// What list answers from a start on, and what a lent slice of nines then holds.
+pub fn listing(text: &[u8], start: u64, out: &mut [u32]) {
+    say(b"list");
+    say_number(start);
+    say(b" ");
+    say(text);
+    say_listing(list(text, start, out));
+    say_states(out);
+    say(b"\n");
+}
+
+fn say_verdict(verdict: Verdict) {
+    match verdict {
+        Verdict::Covered => say(b" covered"),
+        Verdict::Gap(state) => {
+            say(b" gap");
+            say_number(state);
+        }
+        Verdict::Undecided => say(b" undecided"),
+        Verdict::Refused(refusal) => say_refusal(refusal),
+    }
+}
+
+// What check answers at a depth.
+pub fn checking(text: &[u8], depth: u64) {
+    say(b"check");
+    say_number(depth);
+    say(b" ");
+    say(text);
+    say_verdict(check(text, depth));
+    say(b"\n");
 }
