@@ -1,6 +1,9 @@
-// The outline's examples of reading and naming. The file stdout holds what must come out, one example a line.
+// The outline's examples, run. The file stdout holds what must come out, one example a line.
 mod show;
 
+use show::checking;
+use show::evaluating;
+use show::listing;
 use show::naming;
 use show::reading;
 use show::reading_into;
