@@ -155,13 +155,19 @@ fn first_difference(of: &[u16; VARIABLES], pairs: &[u8; PAIRS], list: &[u16], co
     PAIRS
 }
 
-// 1 where rest and the naive reference differ on the list in its present order, and 0 where not.
-fn compared(pairs: &[u8; PAIRS], list: &[u16], count: usize, seed: usize, order: usize) -> usize
+// 1 where rest and the naive reference differ on the list in its present order, and 0 where not. Where none was told before, it tells.
+fn compared(
+    pairs: &[u8; PAIRS],
+    list: &[u16],
+    count: usize,
+    seed: usize,
+    order: usize,
+    told: bool,
+) -> usize
     requires { ⌜ count ≤ 8 ⌝ }
     ensures { λ r. ⌜ r ≤ 1 ⌝ }
 {
     if !is_readable(list, count) {
-        report(list, count, seed, order, PAIRS);
         return 1;
     }
     let r = rested(list, count, seed);
@@ -169,12 +175,22 @@ fn compared(pairs: &[u8; PAIRS], list: &[u16], count: usize, seed: usize, order:
     if pair >= PAIRS {
         return 0;
     }
-    report(list, count, seed, order, pair);
+    if told {
+        return 1;
+    }
+    report(
+        list,
+        count,
+        seed,
+        order,
+        pair,
+        holds(pairs, pair / 32, pair % 32),
+    );
     1
 }
 
 // How many orders of the list of this seed have a pair on which the two differ.
-pub fn disagreements(seed: usize) -> usize
+pub fn disagreements(seed: usize, told: bool) -> usize
     ensures { λ r. ⌜ r ≤ 4 ⌝ }
 {
     let count = 1 + seed % 8;
@@ -186,7 +202,7 @@ pub fn disagreements(seed: usize) -> usize
     let mut wrong: usize = 0;
     let mut order: usize = 0;
     while order < ORDERS {
-        wrong += compared(&pairs, &list, count, seed, order);
+        wrong += compared(&pairs, &list, count, seed, order, told | (wrong > 0));
         list = reordered(list, count, seed % 100000 * 4 + order);
         order += 1;
     }

@@ -1,4 +1,6 @@
 // A disagreement in full.
+use crate::draw::draw;
+ghost use Prim.Native.Nat.{_≤_};
 
 fn print(label: &[u8], n: usize) {
     io::write_all(1, label);
@@ -21,13 +23,25 @@ fn print_triplets(list: &[u16], count: usize) {
     }
 }
 
-// The list as it stands: its seed and order, the pair of literals on which the two differ, and the triplets.
-pub fn report(list: &[u16], count: usize, seed: usize, order: usize, pair: usize) {
+// The list as it stands, the two equalities that it started from, and a pair of literals that one of the two holds. All literals are
+// those of the list as it was made, counted without gaps, but in the triplets.
+pub fn report(list: &[u16], count: usize, seed: usize, order: usize, pair: usize, naive: bool)
+    requires { ⌜ count ≤ 8 ⌝ }
+{
+    let literals = 10 + 2 * count;
     print(b"seed ", seed);
     print(b" order ", order);
-    print(b" literals ", pair / 32);
-    print(b" and ", pair % 32);
+    print(b" start ", draw(seed, 101, literals));
+    print(b"=", draw(seed, 102, literals));
+    print(b" ", draw(seed, 103, literals));
+    print(b"=", draw(seed, 104, literals));
     io::write_all(1, b" triplets");
     print_triplets(list, count);
-    io::write_all(1, b"\n");
+    print(b" literals ", pair / 32);
+    print(b" and ", pair % 32);
+    if naive {
+        io::write_all(1, b" are equal in the naive reference alone\n");
+        return;
+    }
+    io::write_all(1, b" are equal in rest alone\n");
 }

@@ -7,9 +7,6 @@ use Rattle.rest_compared.proofs.compare.compared.Tie as tie
 is-readable-requires : tie.Need-is-readable-requires
 is-readable-requires c κs = search needs
 
-report-requires : tie.Need-report-requires
-report-requires c κs = search needs
-
 returns : tie.Need-returns
 returns c = search needs
 
@@ -25,21 +22,28 @@ first-difference-requires c κs = search needs
 returns-2 : tie.Need-returns-2
 returns-2 c = search needs
 
-report-requires-2 : tie.Need-report-requires-2
-report-requires-2 c κs = search needs
-
 returns-3 : tie.Need-returns-3
 returns-3 c = search needs
+
+holds-requires : tie.Need-holds-requires
+holds-requires c κs = search needs
+
+report-requires : tie.Need-report-requires
+report-requires c κs = search needs
+
+returns-4 : tie.Need-returns-4
+returns-4 c = search needs
 
 pub compared-spec : {M : Type 1} → statement M
 compared-spec =
     tie.close
     (tie.spec
     is-readable-requires
-    report-requires
     returns
     rested-requires
     first-difference-requires
     returns-2
-    report-requires-2
-    returns-3)
+    returns-3
+    holds-requires
+    report-requires
+    returns-4)

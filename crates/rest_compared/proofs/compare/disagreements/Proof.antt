@@ -7,11 +7,11 @@ use Rattle.rest_compared.proofs.compare.disagreements.Statement.{statem
 use Rattle.rest_compared.proofs.compare.disagreements.Tie as tie
 
 abbrev Inv-loop : tie.InvT-loop
-Inv-loop seed count list₀ pairs wrong₀ order₀ list wrong order =
+Inv-loop seed told count list₀ pairs wrong₀ order₀ list wrong order =
     (order ≤ 4) × (wrong ≤ order) × (count ≤ 8) × (length list ≡ 56)
 
 abbrev μ-loop : tie.MeasureT-loop
-μ-loop seed count list₀ pairs wrong₀ order₀ list wrong order = 4 - order
+μ-loop seed told count list₀ pairs wrong₀ order₀ list wrong order = 4 - order
 
 add-count : tie.Need-add-count Inv-loop μ-loop
 add-count c = search needs
