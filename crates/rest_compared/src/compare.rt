@@ -11,7 +11,7 @@ use crate::naive::holds;
 use crate::naive::settle;
 use crate::report::report;
 use relation::classes::Relation;
-use relation::classes::VARIABLES;
+use notation::ceilings::VARIABLES;
 use relation::classes::equal;
 use relation::classes::fresh;
 use relation::joining::join;

@@ -1,5 +1,5 @@
 // Rest as an entry for C, for measurements alone: whoever calls it has to keep what it requires.
-use relation::classes::VARIABLES;
+use notation::ceilings::VARIABLES;
 use steps::rest::rest;
 ghost use Rattle.relation.specs.Classes.{Classes};
 ghost use Rattle.steps.specs.Contracts.{inUse, Rested, Readable};
