@@ -1,5 +1,6 @@
 #!/usr/bin/env python3
 """measure.py DIR [ours]: measures the programs that bench/run has built in DIR, in x86-64 instructions, and prints the tables.
+measure.py DIR rest FILE..: measures rest on other guards, one a line.
 
 The count is of one pass over a corpus, less the same program's pass that calls nothing. It repeats under any load.
 """
@@ -7,6 +8,8 @@ import os
 import re
 import subprocess
 import sys
+
+import corpora
 
 CORPORA = ("quest", "lines", "proofs", "wide")
 # the plain program needs 2,571 million instructions for each of these guards
@@ -52,22 +55,32 @@ def services(folder, ours):
     return agree
 
 
-def rest(folder):
+def rest(folder, names):
     """A row for each corpus: rest, in instructions for each triplet that is looked at."""
     program = os.path.join(folder, "rest")
     agree = True
-    print(f"{'rest':10} {'corpus':8} {'relations':>9} {'steps':>9} {'plain C, a step':>16} {'ours':>6} {'ratio':>6}")
-    for name in CORPORA:
+    print(f"{'rest':4} {'corpus':15} {'relations':>9} {'steps':>9} {'plain C, a step':>16} {'ours':>6} {'ratio':>6}")
+    for name in names:
         corpus = os.path.join(folder, name + ".txt")
         relations, steps, differing = (int(word) for word in run(program, "compare", corpus).stdout.split())
         plain, ours = (cost(program, corpus, (mode,))[0] for mode in ("plain", "ours"))
         differ = f"   {differing} RELATIONS DIFFER" if differing else ""
-        print(f"{'':10} {name:8} {relations:9} {steps:9} {plain / steps:16.1f} {ours / steps:6.1f} {ours / plain:6.2f}{differ}", flush=True)
+        print(f"{'':4} {name:15} {relations:9} {steps:9} {plain / steps:16.1f} {ours / steps:6.1f} {ours / plain:6.2f}{differ}", flush=True)
         agree = agree and differing == 0
     return agree
 
 
+def taken_in(folder, path):
+    """The name of a corpus in the folder that has the guards of the file."""
+    name = "other-" + os.path.splitext(os.path.basename(path))[0]
+    with open(path) as guards, open(os.path.join(folder, name + ".txt"), "w") as out:
+        out.writelines(f"{corpora.flags(guard)} {guard}" for guard in guards)
+    return name
+
+
 if __name__ == "__main__":
-    rests = rest(sys.argv[1])
+    if sys.argv[2:3] == ["rest"]:
+        sys.exit(0 if rest(sys.argv[1], [taken_in(sys.argv[1], path) for path in sys.argv[3:]]) else 1)
+    rests = rest(sys.argv[1], CORPORA)
     print()
     sys.exit(0 if services(sys.argv[1], "ours" in sys.argv[2:]) and rests else 1)
