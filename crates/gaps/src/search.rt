@@ -3,10 +3,19 @@ use crate::rows::flag_rows;
 use crate::walk::block;
 use crate::walk::walk;
 use crate::writing::Found;
+use notation::ceilings::VARIABLES;
 ghost use Prim.Native.Nat.{_^_, _-_, _≤_, _<_};
 ghost use Rattle.truth.specs.Computed.{rootValue, Triplets};
 ghost use Rattle.gaps.specs.Gaps.{falseFrom};
 ghost use Rattle.gaps.specs.Writing.{Writes};
+
+// Words of the rows of all variables, at four and at 32 words to a row.
+const FOUR_WORDS: usize = 4 * VARIABLES;
+
+const MANY_WORDS: usize = 32 * VARIABLES;
+
+// Both signs of each variable.
+const LITERALS: usize = 2 * VARIABLES;
 
 // What a row holds before it is made is never read; a fill of unequal bytes is a plain loop, where one of equal bytes may
 // become a call that is dear for a guard of few flags.
@@ -16,7 +25,7 @@ fn narrow(xs: &[u16], count: usize, root: u16, n: usize, start: u64, out: &mut [
     requires { ⌜ Triplets n (now xs) count root × (n ≤ 6) × (start ≤ 2 ^ n) ⌝ }
     ensures { λ r. ⌜ Writes (now (out .entry)) 0 (falseFrom (rootValue n (now (xs .entry)) count root) start (2 ^ n - start)) r (now (out .exit)) ⌝ }
 {
-    let mut rows = [72623859790382856u64; 280];
+    let mut rows = [72623859790382856u64; VARIABLES];
     flag_rows(&mut rows, n, 1);
     block(xs, count, root, n, &mut rows, 1, 0, start, 0, out)
 }
@@ -26,7 +35,7 @@ fn middle(xs: &[u16], count: usize, root: u16, n: usize, start: u64, out: &mut [
     requires { ⌜ Triplets n (now xs) count root × (n ≤ 8) × (start ≤ 2 ^ n) ⌝ }
     ensures { λ r. ⌜ Writes (now (out .entry)) 0 (falseFrom (rootValue n (now (xs .entry)) count root) start (2 ^ n - start)) r (now (out .exit)) ⌝ }
 {
-    let mut rows = [72623859790382856u64; 1120];
+    let mut rows = [72623859790382856u64; FOUR_WORDS];
     flag_rows(&mut rows, n, 4);
     block(xs, count, root, n, &mut rows, 4, 0, start, 0, out)
 }
@@ -44,8 +53,8 @@ fn wide(
     requires { ⌜ Triplets n (now xs) count root × (low ≤ 11) × (low ≤ n) × (start ≤ 2 ^ n) ⌝ }
     ensures { λ r. ⌜ Writes (now (out .entry)) 0 (falseFrom (rootValue n (now (xs .entry)) count root) start (2 ^ n - start)) r (now (out .exit)) ⌝ }
 {
-    let mut rows = [72623859790382856u64; 8960];
-    let mut to = [258u16; 560];
+    let mut rows = [72623859790382856u64; MANY_WORDS];
+    let mut to = [258u16; LITERALS];
     flag_rows(&mut rows, low, 32);
     walk(
         xs,

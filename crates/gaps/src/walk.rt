@@ -3,6 +3,7 @@ use crate::fixing::fix_first;
 use crate::rows::evaluate;
 use crate::writing::Found;
 use crate::writing::write_row;
+use notation::ceilings::TRIPLETS_ROOM;
 ghost use mathlib.Core.Path.{_≡_};
 ghost use Prim.Native.Nat.{ℕ, suc, _+_, _*_, _^_, _≤_, _<_};
 ghost use lib.ListN.{length};
@@ -56,7 +57,7 @@ fn side(
     if last < start {
         return Found::Done(from);
     }
-    let mut ys = [258u16; 765];
+    let mut ys = [258u16; TRIPLETS_ROOM];
     let left = fix_first(xs, count, root, n, b, to, &mut ys);
     if left.root == 0 {
         return Found::Done(from);
