@@ -184,7 +184,7 @@ static void make(unsigned flags, unsigned signs, int damaged) {
 int main(void) {
     int i;
     seed = 20251;
-    for (i = 0; i < 20000; i++) {
+    for (i = 0; i < 12000; i++) {
         make(1 + draw(6), draw(12), i % 2);
         if (g.refusal) {
             compare_refused();
@@ -203,7 +203,7 @@ int main(void) {
         compare_states();
         compare_lists();
     }
-    for (i = 0; i < 6000; i++) {
+    for (i = 0; i < 4000; i++) {
         make(1 + draw(4), draw(8), 0);
         if (g.refusal) continue;
         compare_saturation(0);
