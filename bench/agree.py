@@ -11,7 +11,7 @@ sys.path.insert(0, os.path.join(os.path.dirname(os.path.abspath(__file__)), ".."
 import guards
 import reference
 
-MORE, OTHER_FORM = 1 << 63, 1 << 62
+MORE, REFUSED = 1, 3  # kinds: the upper half of an answer
 
 
 def wanted(service, *args):
@@ -25,16 +25,16 @@ def packed_read(text):
     try:
         flags, count, root, numbers = reference.read(text, 765)
     except reference.Refused as refused:
-        return OTHER_FORM | reference.packed_refusal(refused), []
-    return flags << 32 | count << 16 | root, numbers
+        return reference.packed_refusal(refused), []
+    return flags << 24 | count << 16 | root, numbers
 
 
 def packed_list(text, start, room):
     try:
         written, following = reference.list_gaps(text, start, room)
     except reference.Refused as refused:
-        return OTHER_FORM | reference.packed_refusal(refused), []
-    return (MORE | following << 32 if following is not None else 0) | len(written), written
+        return reference.packed_refusal(refused), []
+    return (MORE << 32 | following if following is not None else len(written)), written
 
 
 def packed_name(text, flag):
@@ -50,7 +50,7 @@ def compare(library, text, rng, large):
     if large:
         state, start, depth = rng.randrange(1 << 14), rng.randrange(1 << 14), 24
     got = library.trestulan_read(text, len(text), numbers, 765)
-    if (got, list(numbers)[: 3 * (got >> 16 & 0xFFFF) if not got & OTHER_FORM else 0]) != packed_read(text):
+    if (got, list(numbers)[: 3 * (got >> 16 & 0xFF) if got >> 32 != REFUSED else 0]) != packed_read(text):
         return "read"
     if library.trestulan_name(text, len(text), flag) != wanted(packed_name, text, flag):
         return f"name {flag}"
@@ -61,7 +61,7 @@ def compare(library, text, rng, large):
     if got != answer or list(room)[: len(written)] != written or any(list(room)[len(written) :]):
         return f"list {start} {size}"
     # saturation by naive rules is slow: at a depth from n up the answer is the first gap, which the list has
-    if depth == 24 and not packed_read(text)[0] & OTHER_FORM:
+    if depth == 24 and packed_read(text)[0] >> 32 != REFUSED:
         _, first = reference.list_gaps(text, 0, 0)
         answer = 0 if first is None else 1 << 32 | first
     else:

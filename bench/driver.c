@@ -1,6 +1,6 @@
 /* driver MODE CORPUS [DEPTH]: calls one entry on each guard of a corpus, and prints the number of guards and a sum over the answers.
    The mode `nothing` reads the corpus and calls nothing: what it costs is taken off what the others cost. */
-#include "trestulan.h"
+#include "../include/trestulan.h"
 #include <stdio.h>
 #include <stdlib.h>
 #include <string.h>

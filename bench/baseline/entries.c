@@ -1,11 +1,9 @@
 /* The entries, by the plain C programs. */
-#include "../trestulan.h"
+#include "../../include/trestulan.h"
 #include "guard.h"
 #include <string.h>
 
-static const uint64_t OTHER_FORM = 1ull << 62;
-
-uint64_t trestulan_check(const uint8_t *text, size_t len, uint64_t depth)
+uint64_t trestulan_check(const void *text, size_t len, uint64_t depth)
 {
     struct guard g;
     if (len > 4096)
@@ -21,7 +19,7 @@ uint64_t trestulan_check(const uint8_t *text, size_t len, uint64_t depth)
     return first >> g.flags ? 0 : 1ull << 32 | first;
 }
 
-uint64_t trestulan_evaluate(const uint8_t *text, size_t len, uint64_t state)
+uint64_t trestulan_evaluate(const void *text, size_t len, uint64_t state)
 {
     struct guard g;
     uint8_t value[VARIABLES];
@@ -41,32 +39,32 @@ uint64_t trestulan_evaluate(const uint8_t *text, size_t len, uint64_t state)
     return value[g.root >> 1] ^ (g.root & 1u);
 }
 
-uint64_t trestulan_list(const uint8_t *text, size_t len, uint64_t start, uint32_t *out, size_t room)
+uint64_t trestulan_list(const void *text, size_t len, uint64_t start, uint32_t *out, size_t room)
 {
     struct guard g;
     uint64_t next;
     guard_read(&g, text, len);
     if (g.number)
-        return OTHER_FORM | guard_refusal(&g);
+        return guard_refusal(&g);
     if (start >> g.flags)
-        return OTHER_FORM | refusal(9, 0);
+        return refusal(9, 0);
     uint64_t written = gaps_list(&g, start, out, room, &next);
-    return next >> g.flags ? written : 1ull << 63 | next << 32 | written;
+    return next >> g.flags ? written : 1ull << 32 | next;
 }
 
-uint64_t trestulan_read(const uint8_t *text, size_t len, uint16_t *out, size_t room)
+uint64_t trestulan_read(const void *text, size_t len, uint16_t *out, size_t room)
 {
     struct guard g;
     guard_read(&g, text, len);
     if (g.number)
-        return OTHER_FORM | guard_refusal(&g);
+        return guard_refusal(&g);
     if (room < 3 * g.count)
-        return OTHER_FORM | refusal(10, 0);
+        return refusal(10, 0);
     memcpy(out, g.triplets, 6 * g.count);
-    return (uint64_t)g.flags << 32 | (uint64_t)g.count << 16 | g.root;
+    return (uint64_t)g.flags << 24 | (uint64_t)g.count << 16 | g.root;
 }
 
-uint64_t trestulan_name(const uint8_t *text, size_t len, uint64_t flag)
+uint64_t trestulan_name(const void *text, size_t len, uint64_t flag)
 {
     struct guard g;
     guard_read(&g, text, len);
