@@ -4,6 +4,7 @@ pub mod Shaped
 pub mod Numbered
 pub mod Accepted
 pub mod Table
+pub mod Classing
 pub mod Cutting
 pub mod Coding
 pub mod Writing

@@ -38,275 +38,90 @@ pub enum Cut {
     Refused(Refusal),
 }
 
-// What a byte can be the first of, by its value.
-const CLASS: [u8; 256] = [
-    0,
-    0,
-    0,
-    0,
-    0,
-    0,
-    0,
-    0,
-    0,
-    0,
-    0,
-    0,
-    0,
-    0,
-    0,
-    0, //
-    0,
-    0,
-    0,
-    0,
-    0,
-    0,
-    0,
-    0,
-    0,
-    0,
-    0,
-    0,
-    0,
-    0,
-    0,
-    0, //
-    1,
-    4,
-    0,
-    3,
-    0,
-    0,
-    5,
-    0,
-    9,
-    10,
-    0,
-    0,
-    0,
-    0,
-    2,
-    0, //
-    2,
-    2,
-    2,
-    2,
-    2,
-    2,
-    2,
-    2,
-    2,
-    2,
-    0,
-    0,
-    0,
-    8,
-    7,
-    0, //
-    0,
-    2,
-    2,
-    2,
-    2,
-    2,
-    2,
-    2,
-    2,
-    2,
-    2,
-    2,
-    2,
-    2,
-    2,
-    2, //
-    2,
-    2,
-    2,
-    2,
-    2,
-    2,
-    2,
-    2,
-    2,
-    2,
-    2,
-    0,
-    0,
-    0,
-    0,
-    2, //
-    0,
-    2,
-    2,
-    2,
-    2,
-    2,
-    2,
-    2,
-    2,
-    2,
-    2,
-    2,
-    2,
-    2,
-    2,
-    2, //
-    2,
-    2,
-    2,
-    2,
-    2,
-    2,
-    2,
-    2,
-    2,
-    2,
-    2,
-    0,
-    6,
-    0,
-    0,
-    0, //
-    0,
-    0,
-    0,
-    0,
-    0,
-    0,
-    0,
-    0,
-    0,
-    0,
-    0,
-    0,
-    0,
-    0,
-    0,
-    0, //
-    0,
-    0,
-    0,
-    0,
-    0,
-    0,
-    0,
-    0,
-    0,
-    0,
-    0,
-    0,
-    0,
-    0,
-    0,
-    0, //
-    0,
-    0,
-    0,
-    0,
-    0,
-    0,
-    0,
-    0,
-    0,
-    0,
-    0,
-    0,
-    0,
-    0,
-    0,
-    0, //
-    0,
-    0,
-    0,
-    0,
-    0,
-    0,
-    0,
-    0,
-    0,
-    0,
-    0,
-    0,
-    0,
-    0,
-    0,
-    0, //
-    0,
-    0,
-    0,
-    0,
-    0,
-    0,
-    0,
-    0,
-    0,
-    0,
-    0,
-    0,
-    0,
-    0,
-    0,
-    0, //
-    0,
-    0,
-    0,
-    0,
-    0,
-    0,
-    0,
-    0,
-    0,
-    0,
-    0,
-    0,
-    0,
-    0,
-    0,
-    0, //
-    0,
-    0,
-    0,
-    0,
-    0,
-    0,
-    0,
-    0,
-    0,
-    0,
-    0,
-    0,
-    0,
-    0,
-    0,
-    0, //
-    0,
-    0,
-    0,
-    0,
-    0,
-    0,
-    0,
-    0,
-    0,
-    0,
-    0,
-    0,
-    0,
-    0,
-    0,
-    0,
-];
-
 const CODE_BYTE: u8 = 2;
 
 const HASH: u8 = 3;
 
+// The class of a byte from `A` on.
+fn letter_class(b: u8) -> u8
+    requires { ⌜ 65 ≤ b ⌝ }
+    ensures { λ r. ⌜ r ≡ classOf b ⌝ }
+{
+    if b <= b'Z' {
+        return CODE_BYTE;
+    }
+    if b == b'_' {
+        return CODE_BYTE;
+    }
+    if b < b'a' {
+        return 0;
+    }
+    if b <= b'z' {
+        return CODE_BYTE;
+    }
+    if b == b'|' {
+        return 6;
+    }
+    0
+}
+
+// The class of a byte from `0` on, up to `A`.
+fn digit_class(b: u8) -> u8
+    requires { ⌜ ((48 ≤ b) × (b < 65)) ⌝ }
+    ensures { λ r. ⌜ r ≡ classOf b ⌝ }
+{
+    if b <= b'9' {
+        return CODE_BYTE;
+    }
+    if b == b'>' {
+        return 7;
+    }
+    if b == b'=' {
+        return 8;
+    }
+    0
+}
+
+// The class of a byte below `0`.
+fn mark_class(b: u8) -> u8
+    requires { ⌜ b < 48 ⌝ }
+    ensures { λ r. ⌜ r ≡ classOf b ⌝ }
+{
+    if b == b'!' {
+        return 4;
+    }
+    if b == b'&' {
+        return 5;
+    }
+    if b == b'(' {
+        return 9;
+    }
+    if b == b')' {
+        return 10;
+    }
+    if b == b'.' {
+        return CODE_BYTE;
+    }
+    if b == b'#' {
+        return HASH;
+    }
+    if b == b' ' {
+        return 1;
+    }
+    0
+}
+
+// What a byte can be the first of. Comparisons, since a table would be built anew for each byte.
 fn class(b: u8) -> u8
     ensures { λ r. ⌜ r ≡ classOf b ⌝ }
 {
-    let i = b as usize;
-    CLASS[i]
+    if b'A' <= b {
+        return letter_class(b);
+    }
+    if b'0' <= b {
+        return digit_class(b);
+    }
+    mark_class(b)
 }
 
 // The first place from `from` on where no space stands.

@@ -1,0 +1,54 @@
+-- `notation::tokens::letter_class` meets its contract: letters and `_` make codes, and `|` is a sign.
+use Prim.Native.Nat.{ℕ, _<_, _≤_}
+use mathlib.Core.Path.{_≡_}
+use native.Mathlib.Omega.{arith}
+use borrow.Author.Tests.{le-leb, lt-leb, eq-eqb, ne-eqb}
+use Rattle.notation.proofs.Classing.{class-is}
+use Rattle.notation.proofs.tokens.letter_class.Statement.{statement}
+use Rattle.notation.proofs.tokens.letter_class.Tie as tie
+use Rattle.notation.proofs.tokens.letter_class.Reads as reads
+use Rattle.notation.proofs.tokens.letter_class.Lts as lts
+
+returns : tie.Need-returns
+returns c =
+    let args· = c .before .args in
+    let fits· = c .before .fits in
+    class-is (args· .b) 2 (fits· .b .fits) (rw (le-leb 65 (args· .b) (omega arith), le-leb (args· .b) 90 (omega arith)))
+
+returns-2 : tie.Need-returns-2
+returns-2 c =
+    let args· = c .before .before .args in
+    let fits· = c .before .before .fits in
+    class-is (args· .b) 2 (fits· .b .fits) (rw (le-leb 65 (args· .b) (omega arith), lt-leb (args· .b) 90 (omega arith), eq-eqb (args· .b) 95 (omega arith)))
+
+returns-3 : tie.Need-returns-3
+returns-3 c =
+    let args· = c .before .before .before .args in
+    let fits· = c .before .before .before .fits in
+    let if2· = c .before .if2 in
+    class-is (args· .b) 0 (fits· .b .fits) (rw (le-leb 65 (args· .b) (omega arith), lt-leb (args· .b) 90 (omega arith), ne-eqb (args· .b) 95 (if2· .left), lt-leb 97 (args· .b) (omega arith)))
+
+returns-4 : tie.Need-returns-4
+returns-4 c =
+    let args· = c .before .before .before .before .args in
+    let fits· = c .before .before .before .before .fits in
+    let if2· = c .before .before .if2 in
+    class-is (args· .b) 2 (fits· .b .fits) (rw (le-leb 65 (args· .b) (omega arith), lt-leb (args· .b) 90 (omega arith), ne-eqb (args· .b) 95 (if2· .left), le-leb 97 (args· .b) (omega arith), le-leb (args· .b) 122 (omega arith)))
+
+returns-5 : tie.Need-returns-5
+returns-5 c =
+    let args· = c .before .before .before .before .before .args in
+    let fits· = c .before .before .before .before .before .fits in
+    let if2· = c .before .before .before .if2 in
+    class-is (args· .b) 6 (fits· .b .fits) (rw (le-leb 65 (args· .b) (omega arith), lt-leb (args· .b) 90 (omega arith), ne-eqb (args· .b) 95 (if2· .left), le-leb 97 (args· .b) (omega arith), lt-leb (args· .b) 122 (omega arith), eq-eqb (args· .b) 124 (omega arith)))
+
+returns-6 : tie.Need-returns-6
+returns-6 c =
+    let args· = c .before .before .before .before .before .args in
+    let fits· = c .before .before .before .before .before .fits in
+    let if2· = c .before .before .before .if2 in
+    let if5· = c .if5 in
+    class-is (args· .b) 0 (fits· .b .fits) (rw (le-leb 65 (args· .b) (omega arith), lt-leb (args· .b) 90 (omega arith), ne-eqb (args· .b) 95 (if2· .left), le-leb 97 (args· .b) (omega arith), lt-leb (args· .b) 122 (omega arith), ne-eqb (args· .b) 124 (if5· .left)))
+
+pub letter-class-spec : {M : Type 1} → statement M
+letter-class-spec = tie.close (tie.spec returns returns-2 returns-3 returns-4 returns-5 returns-6)
