@@ -18,7 +18,7 @@ mul-number-of c =
     let named· = c .before .named in
     let pre· = c .before .before .before .pre in
     let fits : (named· .given .0 .0 ≤ textCeiling) × (named· .given .0 .1 .0 ≤ codeCeiling) = subst (λ (v : Named). NamedFits v) (named· .given .1) pre· in
-    omega (arith, fits .0)
+    omega (arith, fits .0, fits .1)
 
 add-number-of : tie.Need-add-number-of
 add-number-of c =

@@ -16,14 +16,14 @@ mul-number-of c =
     let parsed· = c .before .parsed in
     let pre· = c .before .before .before .pre in
     let fits : GuardFits (parsed· .given .0 .0) = subst (λ (v : Parsed). ParsedFits v) (parsed· .given .1) pre· in
-    omega (arith, fits .flags)
+    omega (arith, fits .flags, fits .count)
 
 mul-number-of-2 : tie.Need-mul-number-of-2
 mul-number-of-2 c =
     let parsed· = c .before .parsed in
     let pre· = c .before .before .before .pre in
     let fits : GuardFits (parsed· .given .0 .0) = subst (λ (v : Parsed). ParsedFits v) (parsed· .given .1) pre· in
-    omega (arith, fits .count)
+    omega (arith, fits .flags, fits .count)
 
 add-number-of : tie.Need-add-number-of
 add-number-of c =
