@@ -42,9 +42,23 @@ const CODE_BYTE: u8 = 2;
 
 const HASH: u8 = 3;
 
-// The class of a byte from `A` on.
-fn letter_class(b: u8) -> u8
-    requires { ⌜ 65 ≤ b ⌝ }
+// The class of a byte from `a` on.
+fn small_class(b: u8) -> u8
+    requires { ⌜ 97 ≤ b ⌝ }
+    ensures { λ r. ⌜ r ≡ classOf b ⌝ }
+{
+    if b <= b'z' {
+        return CODE_BYTE;
+    }
+    if b == b'|' {
+        return 6;
+    }
+    0
+}
+
+// The class of a byte from `A` on, up to `a`.
+fn capital_class(b: u8) -> u8
+    requires { ⌜ ((65 ≤ b) × (b < 97)) ⌝ }
     ensures { λ r. ⌜ r ≡ classOf b ⌝ }
 {
     if b <= b'Z' {
@@ -52,15 +66,6 @@ fn letter_class(b: u8) -> u8
     }
     if b == b'_' {
         return CODE_BYTE;
-    }
-    if b < b'a' {
-        return 0;
-    }
-    if b <= b'z' {
-        return CODE_BYTE;
-    }
-    if b == b'|' {
-        return 6;
     }
     0
 }
@@ -115,8 +120,11 @@ fn mark_class(b: u8) -> u8
 fn class(b: u8) -> u8
     ensures { λ r. ⌜ r ≡ classOf b ⌝ }
 {
+    if b'a' <= b {
+        return small_class(b);
+    }
     if b'A' <= b {
-        return letter_class(b);
+        return capital_class(b);
     }
     if b'0' <= b {
         return digit_class(b);
