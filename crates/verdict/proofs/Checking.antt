@@ -24,15 +24,15 @@ use Rattle.verdict.proofs.Tables.{guard-says}
 says : (text : List ℕ) (depth : ℕ) (R : Reading) (r : Verdict) → asked text depth ≡ R → ReadingSays R depth r → CheckSays text depth r
 says text depth R r e h = subst (λ (x : Reading). ReadingSays x depth r) (sym e) h
 
-asks-long : (text : List ℕ) (depth : ℕ) → textCeiling < length text → asked text depth ≡ refusal 1 textCeiling
+pub asks-long : (text : List ℕ) (depth : ℕ) → textCeiling < length text → asked text depth ≡ refusal 1 textCeiling
 unfolding asked
 asks-long text depth h = rw (lt-leb (length text) textCeiling h)
 
-asks-deep : (text : List ℕ) (depth : ℕ) → length text ≤ textCeiling → depthCeiling < depth → asked text depth ≡ refusal 2 0
+pub asks-deep : (text : List ℕ) (depth : ℕ) → length text ≤ textCeiling → depthCeiling < depth → asked text depth ≡ refusal 2 0
 unfolding asked
 asks-deep text depth h d = rw (le-leb (length text) textCeiling h, lt-leb depth depthCeiling d)
 
-asks-text : (text : List ℕ) (depth : ℕ) → length text ≤ textCeiling → depth ≤ depthCeiling → asked text depth ≡ reading text
+pub asks-text : (text : List ℕ) (depth : ℕ) → length text ≤ textCeiling → depth ≤ depthCeiling → asked text depth ≡ reading text
 unfolding asked
 asks-text text depth h d = rw (le-leb (length text) textCeiling h, le-leb depth depthCeiling d)
 

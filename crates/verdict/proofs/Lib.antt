@@ -3,3 +3,4 @@ pub mod Tables
 pub mod Checking
 pub mod Unique
 pub mod Desk
+pub mod Demands
