@@ -2,6 +2,7 @@
  * reading that shares no code with the services (naive.c). Prints how many comparisons were made and how many disagreed; the
  * first disagreement is printed in full. */
 #include "../../include/trestulan.h"
+#include "guards.h"
 #include "naive.h"
 
 #include <inttypes.h>
@@ -9,16 +10,8 @@
 #include <stdlib.h>
 #include <string.h>
 
-static uint64_t seed;
 static unsigned long compared, wrong;
-static uint8_t text[3 * MOST_TEXT];
-static size_t len;
 static struct guard g;
-
-static unsigned draw(unsigned below) {
-    seed = seed * 6364136223846793005u + 1442695040888963407u;
-    return (unsigned)(seed >> 33) % below;
-}
 
 static void same(const char *what, uint64_t number, uint64_t got, uint64_t want) {
     size_t i;
@@ -27,63 +20,6 @@ static void same(const char *what, uint64_t number, uint64_t got, uint64_t want)
     printf("disagreement: %s(%" PRIu64 ") answers %" PRIx64 ", not %" PRIx64 ", for the text [", what, number, got, want);
     for (i = 0; i < len; i++) printf(text[i] >= 32 && text[i] < 127 ? "%c" : "\\x%02x", text[i]);
     printf("]\n");
-}
-
-/* ---- random guards ---- */
-
-static void put(const char *s) {
-    while (*s != 0 && len < sizeof text) text[len++] = (uint8_t)*s++;
-}
-
-static void spaces(void) {
-    if (draw(8) == 0) put(" ");
-}
-
-static void random_code(unsigned flags) {
-    static const char *const codes[] = {"A", "B", "3E5", "300000", "3e5", "a.b", "_x", "C", "LONG.CODE_12", "d", "E1", "F_",
-        "g", "H.", "i9", "J", "K0", "l", "M", "n", "O", "p", "Q_Q", "r"};
-    put(codes[draw(flags)]);
-}
-
-/* A guard with that many two-sided signs. */
-static void random_guard(unsigned flags, unsigned signs, int brackets) {
-    static const char *const sign[] = {"=", ">", "|", "&"};
-    int bracketed;
-    spaces();
-    while (draw(4) == 0) put("!");
-    if (signs == 0) {
-        if (flags == 0 || draw(12) == 0)
-            put(draw(2) ? "#1" : "#0");
-        else
-            random_code(flags);
-        spaces();
-        return;
-    }
-    bracketed = brackets > 0 && draw(3) > 0;
-    if (bracketed) put("(");
-    {
-        unsigned left = draw(signs);
-        random_guard(flags, left, brackets - bracketed);
-        put(sign[draw(4)]);
-        random_guard(flags, signs - 1 - left, brackets - bracketed);
-    }
-    if (bracketed) put(")");
-    spaces();
-}
-
-static void damage(void) {
-    static const char bytes[] = "AB0#!&|>=() ()\t\n-$\x80";
-    unsigned times = 1 + draw(3);
-    while (times-- > 0 && len > 0) {
-        size_t at = draw((unsigned)len);
-        unsigned how = draw(3);
-        if (how == 0) text[at] = (uint8_t)bytes[draw(sizeof bytes)];
-        if (how == 1) memmove(text + at, text + at + 1, --len - at);
-        if (how == 2 && len < sizeof text) {
-            memmove(text + at + 1, text + at, len++ - at);
-            text[at] = (uint8_t)bytes[draw(sizeof bytes)];
-        }
-    }
 }
 
 /* ---- comparisons ---- */
@@ -175,8 +111,7 @@ static void compare_saturation(int depth) {
 }
 
 static void make(unsigned flags, unsigned signs, int damaged) {
-    len = 0;
-    random_guard(flags, signs, 20);
+    random_text(flags, signs);
     if (damaged) damage();
     naive_read(text, len, &g);
 }
@@ -205,11 +140,15 @@ int main(void) {
     }
     for (i = 0; i < 4000; i++) {
         make(1 + draw(4), draw(8), 0);
-        if (g.refusal) continue;
         compare_saturation(0);
         compare_saturation(1);
         if (i % 4 == 0) compare_saturation(2);
-        if (i % 40 == 0) compare_saturation(3);
+    }
+    /* a naive split costs a copy of all pairs: the greater the depth, the smaller the guards */
+    for (i = 0; i < 3000; i++) {
+        make(1 + draw(4), draw(5), 0);
+        compare_saturation(2);
+        compare_saturation(3);
     }
     printf("%lu comparisons, %lu disagreements\n", compared, wrong);
     return wrong != 0;
