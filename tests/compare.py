@@ -10,7 +10,7 @@ import sys
 import guards
 import reference
 
-MORE, REFUSED = 1, 3  # kinds: the upper half of an answer
+MORE = 1  # a kind: the upper half of an answer
 ROOM = 765
 
 
@@ -76,14 +76,6 @@ def wanted_name(text, flag):
     return place << 16 | length
 
 
-def wanted_check(text, depth):
-    """Saturation by naive rules is slow: at a depth from n up the answer is the first gap, which the list has."""
-    if depth == reference.DEPTH and wanted_read(text, ROOM)[0] >> 32 != REFUSED:
-        _, first = reference.list_gaps(text, 0, 0)
-        return 0 if first is None else 1 << 32 | first
-    return reference.packed_check(text, depth)
-
-
 def questions(rng, large):
     """A question to each service. Of a large guard check is asked at the greatest depth alone."""
     beyond = rng.random() < 0.02
@@ -110,7 +102,7 @@ def difference(services, text, asked):
         return "evaluate"
     if services.list(text, *asked["list"]) != wanted_list(text, *asked["list"]):
         return "list"
-    if services.check(text, asked["check"]) != wanted_check(text, asked["check"]):
+    if services.check(text, asked["check"]) != reference.packed_check(text, asked["check"]):
         return "check"
     return None
 

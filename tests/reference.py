@@ -346,6 +346,17 @@ def check(text, depth, rng=None):
     return ("undecided", None) if relation.contradictory() else ("gap", state)
 
 
+def decide(text, depth):
+    """What check answers; from the number of flags up by truth tables, where naive saturation would take days.
+
+    The self-test compares the two ways on small guards.
+    """
+    if len(text) > TEXT or depth > DEPTH or depth < len(Guard(text).flags):
+        return check(text, depth)
+    _, first = list_gaps(text, 0, 0)
+    return ("covered", None) if first is None else ("gap", first)
+
+
 # The importer's side and covercheck
 
 
@@ -355,7 +366,7 @@ def packed_refusal(refused):
 
 def packed_check(text, depth):
     try:
-        kind, state = check(text, depth)
+        kind, state = decide(text, depth)
     except Refused as refused:
         return packed_refusal(refused)
     return {"covered": 0, "gap": 1, "undecided": 2}[kind] << 32 | (state or 0)
@@ -382,7 +393,7 @@ def line_answer(line):
     """What covercheck says of a line, after its number."""
     try:
         depth, text = line_parts(line)
-        kind, state = check(text, depth)
+        kind, state = decide(text, depth)
     except Refused as refused:
         return b"refused %d %d" % (refused.number, refused.place)
     if kind != "gap":
@@ -528,6 +539,7 @@ def agree(t, rng, count):
         for depth in range(len(Guard(text).flags) + 1):
             answer = check(text, depth, rng)
             t.same((text, depth, "in another order"), check(text, depth, rng), answer)
+            t.same((text, depth, "the other way"), decide(text, depth), answer)
             decided = decided or answer != ("undecided", None) or depth >= len(Guard(text).flags)
             t.same((text, depth), answer, truth if decided else ("undecided", None))
 
