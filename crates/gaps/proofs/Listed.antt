@@ -10,8 +10,8 @@ use borrow.Author.Tests.{ltb-true}
 use Rattle.notation.specs.Ceilings.{connectiveCeiling}
 use Rattle.notation.specs.Reading.{refusal, reading}
 use Rattle.notation.specs.declared.refusal.Refusal.{Refusal}
-use Rattle.notation.specs.declared.parse.Guard as counted
-use Rattle.notation.proofs.Serving as serving
+use Rattle.reading.specs.declared.parse.Guard as counted
+use Rattle.reading.proofs.Serving as serving
 use Rattle.truth.specs.Computed.{rootValue, Triplets}
 use Rattle.truth.proofs.Written.{read-flags, read-begins, read-triplets}
 use Rattle.gaps.specs.declared.writing.Found.{Found}

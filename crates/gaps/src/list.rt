@@ -3,9 +3,9 @@ use crate::listing::Listing;
 use crate::search::search;
 use notation::ceilings::CODES_ROOM;
 use notation::ceilings::TRIPLETS_ROOM;
-use notation::parse::Parsed;
-use notation::parse::parse;
 use notation::refusal::Refusal;
+use reading::parse::Parsed;
+use reading::parse::parse;
 use truth::states::is_state;
 ghost use Rattle.gaps.specs.Listed.{Lists};
 

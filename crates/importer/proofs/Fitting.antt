@@ -16,9 +16,9 @@ use Rattle.notation.specs.Guard.{Guard, connectives}
 use Rattle.notation.specs.Triplets.{literal, literalCeiling, triplets}
 use Rattle.notation.specs.Grammar.{tree}
 use Rattle.notation.specs.Reading.{Reading, refusal, guard, judged, reading}
-use Rattle.notation.specs.Service.{guardWith, refusedWith, readAnswer, unnamed, nameIn, nameAnswer}
-use Rattle.notation.specs.declared.parse.Parsed.{Parsed}
-use Rattle.notation.specs.declared.name.Named.{Named}
+use Rattle.reading.specs.Service.{guardWith, refusedWith, readAnswer, unnamed, nameIn, nameAnswer}
+use Rattle.reading.specs.declared.parse.Parsed.{Parsed}
+use Rattle.reading.specs.declared.name.Named.{Named}
 use Rattle.notation.proofs.Cases.{either}
 use Rattle.notation.proofs.Accepted.{reading-accepted, reading-shape}
 use Rattle.truth.specs.Value.{value}

@@ -4,7 +4,7 @@ use mathlib.Core.Path.{_≡_}
 use mathlib.Core.List.{List}
 use lib.ListN.{length}
 use Rattle.notation.specs.Reading.{reading}
-use Rattle.notation.specs.Service.{readAnswer, roomAfter, nameAnswer}
+use Rattle.reading.specs.Service.{readAnswer, roomAfter, nameAnswer}
 use Rattle.truth.specs.Evaluated.{evaluated}
 use Rattle.gaps.specs.Listed.{listed, filled}
 use Rattle.verdict.specs.Check.{CheckSays}

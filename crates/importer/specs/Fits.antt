@@ -3,11 +3,11 @@ use Prim.Native.Nat.{ℕ, _^_, _≤_, _<_}
 use Rattle.notation.specs.Ceilings.{textCeiling, codeCeiling, flagCeiling, connectiveCeiling}
 use Rattle.notation.specs.Triplets.{literalCeiling}
 use Rattle.notation.specs.declared.refusal.Refusal.{Refusal}
-use Rattle.notation.specs.declared.parse.Guard as counted
-use Rattle.notation.specs.declared.parse.Parsed.{Parsed}
-use Rattle.notation.specs.declared.parse.Parsed.the-variants as parsed
-use Rattle.notation.specs.declared.name.Named.{Named}
-use Rattle.notation.specs.declared.name.Named.the-variants as named
+use Rattle.reading.specs.declared.parse.Guard as counted
+use Rattle.reading.specs.declared.parse.Parsed.{Parsed}
+use Rattle.reading.specs.declared.parse.Parsed.the-variants as parsed
+use Rattle.reading.specs.declared.name.Named.{Named}
+use Rattle.reading.specs.declared.name.Named.the-variants as named
 use Rattle.truth.specs.declared.evaluate.Evaluation.{Evaluation}
 use Rattle.truth.specs.declared.evaluate.Evaluation.the-variants as evaluation
 use Rattle.gaps.specs.declared.writing.Found.{Found}

@@ -2,13 +2,13 @@
 pub mod packing;
 
 use gaps::list::list;
-use notation::name::name;
-use notation::read::read;
 use packing::pack_evaluation;
 use packing::pack_listing;
 use packing::pack_named;
 use packing::pack_parsed;
 use packing::pack_verdict;
+use reading::name::name;
+use reading::read::read;
 use truth::evaluate::evaluate;
 use verdict::check::check;
 ghost use mathlib.Core.Path.{_≡_};

@@ -1,9 +1,9 @@
 // Packs each answer into one number: kind x 2^32 + payload.
 use gaps::listing::Listing;
 use gaps::writing::Found;
-use notation::name::Named;
-use notation::parse::Parsed;
 use notation::refusal::Refusal;
+use reading::name::Named;
+use reading::parse::Parsed;
 use truth::evaluate::Evaluation;
 use verdict::verdicts::Verdict;
 ghost use mathlib.Core.Path.{_≡_};

@@ -1,7 +1,8 @@
 -- The triplets of a guard and its root literal.
 use Prim.Native.Nat.{ℕ, _+_, _*_, _/_, _%_}
-use mathlib.Core.Bool.{Bool, true, false}
+use mathlib.Core.Bool.{true, false}
 use mathlib.Core.List.{List, [], _∷_, _++_}
+use lib.ListN.{set}
 use Rattle.notation.specs.Ceilings.{flagCeiling, connectiveCeiling}
 use Rattle.notation.specs.Tokens.{Sign, same, implies, or, and}
 use Rattle.notation.specs.Guard.{Guard, flag, truth, negated, joined, connectives}
@@ -23,6 +24,10 @@ literalCeiling = 2 * tripletVariable connectiveCeiling + 1
 -- the negation of a literal: 2v and 2v + 1 change places
 unfoldable pub negation : ℕ → ℕ
 negation l = 2 * (l / 2) + (l + 1) % 2
+
+-- the literal, negated where odd is 1
+unfoldable pub turned : ℕ → ℕ → ℕ
+turned odd l = 2 * (l / 2) + (l + odd) % 2
 
 -- `a&b` is x = (a implies not b) with not x as its literal, `a|b` x = (not a implies b)
 unfoldable pub tripletOf : Sign → ℕ → ℕ → Triplet
@@ -62,3 +67,10 @@ numbers (t ∷ ts) = t .kind ∷ t .y ∷ t .z ∷ numbers ts
 abbrev pub Each : (Triplet → ℕ → Type 0) → ℕ → List Triplet → Type 0
 Each P c [] = Unit {0}
 Each P c (t ∷ ts) = P t (2 * tripletVariable (c + 1)) × Each P (c + 1) ts
+
+-- a triplet written after c others
+abbrev pub putAt : List ℕ → ℕ → ℕ → ℕ → ℕ → List ℕ
+putAt out c k y z = set (set (set out (3 * c) k) (3 * c + 1) y) (3 * c + 2) z
+
+abbrev pub tripletAt : List ℕ → ℕ → Triplet → List ℕ
+tripletAt out c t = putAt out c (t .kind) (t .y) (t .z)

@@ -4,11 +4,9 @@ use crate::tokens::Connective;
 ghost use mathlib.Core.Path.{_≡_};
 ghost use Prim.Native.Nat.{_+_, _*_, _≤_, _<_};
 ghost use lib.ListN.{length};
-ghost use Rattle.notation.specs.Triplets.{tripletOf, literalOf, tripletVariable};
+ghost use Rattle.notation.specs.Triplets.{tripletOf, literalOf, tripletVariable, literalCeiling, turned, putAt, tripletAt};
 ghost use Rattle.notation.specs.Ceilings.{connectiveCeiling};
 ghost use Rattle.notation.specs.Cut.{signOf};
-ghost use Rattle.notation.specs.Levels.{turned, putAt, tripletAt};
-ghost use Rattle.notation.specs.Triplets.{literalCeiling};
 
 // A literal, negated where `odd` is 1.
 pub fn flipped(literal: u16, odd: u16) -> u16

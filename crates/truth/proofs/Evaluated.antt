@@ -7,8 +7,8 @@ use lib.ListN.{length}
 use lib.Dec.{ltb}
 use Rattle.notation.specs.Reading.{refusal, reading}
 use Rattle.notation.specs.declared.refusal.Refusal.{Refusal}
-use Rattle.notation.specs.declared.parse.Guard as counted
-use Rattle.notation.proofs.Serving.{Found}
+use Rattle.reading.specs.declared.parse.Guard as counted
+use Rattle.reading.proofs.Serving.{Found}
 use Rattle.truth.specs.Value.{value}
 use Rattle.truth.specs.Computed.{rootValue}
 use Rattle.truth.specs.Evaluated.{evaluated}

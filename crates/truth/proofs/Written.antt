@@ -10,9 +10,9 @@ use Rattle.notation.specs.Guard.{Guard, connectives}
 use Rattle.notation.specs.Triplets.{literal, triplets, numbers}
 use Rattle.notation.specs.Shape.{Names, Shape, FlagsWithin}
 use Rattle.notation.specs.Reading.{reading}
-use Rattle.notation.specs.declared.parse.Guard as counted
+use Rattle.reading.specs.declared.parse.Guard as counted
 use Rattle.notation.proofs.Accepted.{reading-within}
-use Rattle.notation.proofs.Serving.{Found}
+use Rattle.reading.proofs.Serving.{Found}
 use Rattle.notation.proofs.Shaped.{shaped, root-named}
 use Rattle.truth.specs.Value.{value}
 use Rattle.truth.specs.Computed.{computed, rootValue, Triplets}

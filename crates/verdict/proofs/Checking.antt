@@ -10,8 +10,8 @@ use Rattle.notation.specs.Walk.{Flag}
 use Rattle.notation.specs.Guard.{Guard}
 use Rattle.notation.specs.Reading.{Reading, refusal, guard, reading}
 use Rattle.notation.specs.declared.refusal.Refusal.{Refusal}
-use Rattle.notation.specs.declared.parse.Guard as counted
-use Rattle.notation.proofs.Serving.{Found}
+use Rattle.reading.specs.declared.parse.Guard as counted
+use Rattle.reading.proofs.Serving.{Found}
 use Rattle.notation.proofs.Accepted.{reading-within}
 use Rattle.verdict.specs.Check.{depthCeiling, asked, verdictOf, GuardSays, ReadingSays, CheckSays}
 use Rattle.verdict.specs.Decision.{FromGuard, Decided}

@@ -5,9 +5,9 @@ use crate::verdicts::verdict_of;
 use notation::ceilings::CODES_ROOM;
 use notation::ceilings::TEXT;
 use notation::ceilings::TRIPLETS_ROOM;
-use notation::parse::Parsed;
-use notation::parse::parse;
 use notation::refusal::Refusal;
+use reading::parse::Parsed;
+use reading::parse::parse;
 ghost use Rattle.verdict.specs.Check.{CheckSays};
 
 // The ceiling of the depth.

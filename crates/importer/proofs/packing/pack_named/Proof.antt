@@ -3,7 +3,7 @@ use Prim.Native.Nat.{_≤_}
 use mathlib.Core.Path.{subst, sym, ap, _∙_}
 use native.Mathlib.Omega.{arith}
 use Rattle.notation.specs.Ceilings.{textCeiling, codeCeiling}
-use Rattle.notation.specs.declared.name.Named.{Named}
+use Rattle.reading.specs.declared.name.Named.{Named}
 use Rattle.importer.specs.Packed.{packedNamed}
 use Rattle.importer.specs.Fits.{NamedFits}
 use borrow.Author.Needs.{needs}

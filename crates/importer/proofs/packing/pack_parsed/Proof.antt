@@ -1,7 +1,7 @@
 -- `importer::packing::pack_parsed` meets its contract, by the two cases.
 use mathlib.Core.Path.{subst, sym, ap, _∙_}
 use native.Mathlib.Omega.{arith}
-use Rattle.notation.specs.declared.parse.Parsed.{Parsed}
+use Rattle.reading.specs.declared.parse.Parsed.{Parsed}
 use Rattle.importer.specs.Packed.{packedParsed}
 use Rattle.importer.specs.Fits.{GuardFits, ParsedFits}
 use borrow.Author.Needs.{needs}

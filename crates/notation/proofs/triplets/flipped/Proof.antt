@@ -1,11 +1,9 @@
 -- `notation::triplets::flipped` meets its contract: it is the definition.
 use mathlib.Core.Path.{refl}
-use Rattle.notation.specs.Levels.{turned}
+use Rattle.notation.specs.Triplets.{turned}
 use borrow.Author.Needs.{needs}
 use Rattle.notation.proofs.triplets.flipped.Statement.{statement}
 use Rattle.notation.proofs.triplets.flipped.Tie as tie
-use Rattle.notation.proofs.triplets.flipped.Reads as reads
-use Rattle.notation.proofs.triplets.flipped.Lts as lts
 
 mul-result : tie.Need-mul-result
 mul-result c = search needs

@@ -1,13 +1,8 @@
 -- `notation::triplets::y_of` meets its contract, sign by sign.
-use mathlib.Core.Path.{refl, _∙_}
-use Rattle.notation.specs.Triplets.{tripletOf, negation}
-use Rattle.notation.specs.Levels.{turned}
+use Rattle.notation.specs.Triplets.{tripletOf, negation, turned}
 use borrow.Author.Needs.{needs}
 use Rattle.notation.proofs.triplets.y_of.Statement.{statement}
 use Rattle.notation.proofs.triplets.y_of.Tie as tie
-use Rattle.notation.proofs.triplets.y_of.Reads as reads
-use Rattle.notation.proofs.triplets.y_of.Lts as lts
-use Rattle.notation.proofs.triplets.flipped.Reads as flipped-reads
 
 enum-told : tie.Need-enum-told
 enum-told c = search needs

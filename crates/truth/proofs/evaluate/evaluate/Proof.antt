@@ -5,7 +5,7 @@ use native.Mathlib.Omega.{arith}
 use borrow.Author.Tests.{not-true, not-false}
 use Rattle.notation.specs.Ceilings.{flagCeiling}
 use Rattle.notation.specs.Reading.{reading}
-use Rattle.notation.proofs.Serving.{guard-found, refusal-found}
+use Rattle.reading.proofs.Serving.{guard-found, refusal-found}
 use Rattle.truth.proofs.Written.{read-begins, read-triplets}
 use Rattle.truth.proofs.Evaluated.{evaluates-refusal, evaluates-no-state, evaluates-value}
 use borrow.Author.Needs.{needs}

@@ -1,7 +1,7 @@
 -- `verdict::check::check` meets its contract: the ceilings refuse first, then parse's refusal or the decision on its tables is the verdict.
 use native.Mathlib.Omega.{arith}
 use Rattle.notation.specs.Reading.{reading}
-use Rattle.notation.proofs.Serving.{guard-found, refusal-found}
+use Rattle.reading.proofs.Serving.{guard-found, refusal-found}
 use Rattle.verdict.proofs.Checking.{too-long, too-deep, from-tables, refused-too, tables-say}
 use borrow.Author.Needs.{needs}
 use Rattle.verdict.proofs.check.check.Statement.{statement}

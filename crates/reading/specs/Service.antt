@@ -1,0 +1,97 @@
+-- What parse, read and name answer, and what the lent tables and the room then hold.
+use Prim.Native.Nat.{ℕ, zero, suc, _+_, _-_, _*_, _≤_, _<_}
+use mathlib.Core.Path.{_≡_}
+use mathlib.Core.List.{List, [], _∷_, _++_}
+use lib.ListN.{length, take, drop}
+use lib.Dec.{leb, ltb}
+use Rattle.notation.specs.Ceilings.{flagCeiling, connectiveCeiling}
+use Rattle.notation.specs.Tokens.{choose}
+use Rattle.notation.specs.Walk.{Flag}
+use Rattle.notation.specs.Guard.{Guard, connectives}
+use Rattle.notation.specs.Triplets.{literal, triplets, numbers}
+use Rattle.notation.specs.Reading.{Reading, refusal, guard, reading}
+use Rattle.notation.specs.Cut.{ends}
+use Rattle.notation.specs.Codes.{startOf, endOf, flagsIn, InText}
+use Rattle.operands.specs.declared.Part.{Part}
+use Rattle.operands.specs.declared.Operand.{Operand}
+use Rattle.operands.specs.declared.Operand.the-variants as operand
+use Rattle.reading.specs.declared.parse.Parsed.{Parsed}
+use Rattle.reading.specs.declared.parse.Parsed.the-variants as parsed
+use Rattle.reading.specs.declared.name.Named.{Named}
+use Rattle.reading.specs.declared.name.Named.the-variants as named
+
+-- the refusal with this number at this place
+abbrev pub refusedWith : ℕ → ℕ → Parsed
+refusedWith k p = parsed.Refused (record { number = k; place = p })
+
+-- a guard with n flags, c triplets and this root literal
+abbrev pub guardWith : ℕ → ℕ → ℕ → Parsed
+guardWith n c r = parsed.Guard (record { flags = n; count = c; root = r })
+
+-- the guard of a text, in lent tables: its flags, and its triplets as numbers
+pub record GuardRead (text : List ℕ) (g : Guard) (u : List Flag) (r : Parsed) (codes out : List ℕ) : Type 0 where
+  pub answer : r ≡ guardWith (length u) (connectives g) (literal 0 g)
+  pub flags : flagsIn text codes (length u) ≡ u
+  pub inText : InText text codes (length u)
+  pub written : take (3 * connectives g) out ≡ numbers (triplets 0 g)
+  pub few : length u ≤ flagCeiling
+  pub short : connectives g ≤ connectiveCeiling
+
+-- what parse answers, and what the lent tables then hold
+abbrev pub ParseSays : List ℕ → Reading → Parsed → List ℕ → List ℕ → Type 0
+ParseSays text (refusal k p) r codes out = r ≡ refusedWith k p
+ParseSays text (guard g u) r codes out = GuardRead text g u r codes out
+
+-- the refusal of an operand, passed on
+abbrev pub unreadAs : Operand → Parsed
+unreadAs (operand.Refused f) = parsed.Refused f
+unreadAs (operand.Found p) = refusedWith 5 (p .at .token .start)
+
+-- a guard that the text ends after
+abbrev pub endedAs : Part → Parsed
+endedAs p = choose (ends (p .at .token .kind)) (guardWith (p .at .flags) (p .at .count) (p .literal)) (refusedWith 5 (p .at .token .start))
+
+-- read needs three numbers a triplet: it answers the guard, or refusal 10 where the room is too small
+unfoldable pub readAnswer : Reading → ℕ → Parsed
+readAnswer (refusal k p) room = refusedWith k p
+readAnswer (guard g u) room = choose (leb (3 * connectives g) room) (guardWith (length u) (connectives g) (literal 0 g)) (refusedWith 10 0)
+
+-- the room afterwards: kind, y, z of each triplet from its start, the rest unchanged; a refusal changes nothing
+unfoldable pub roomAfter : Reading → List ℕ → List ℕ
+roomAfter (refusal k p) room = room
+roomAfter (guard g u) room = choose (leb (3 * connectives g) (length room)) (numbers (triplets 0 g) ++ drop (3 * connectives g) room) room
+
+-- read's statement: the answer r, and the room afterwards
+pub record ReadSays (text room : List ℕ) (r : Parsed) (after : List ℕ) : Type 0 where
+  pub answer : r ≡ readAnswer (reading text) (length room)
+  pub left : after ≡ roomAfter (reading text) room
+
+-- name's refusal with this number at this place
+abbrev pub unnamed : ℕ → ℕ → Named
+unnamed k p = named.Refused (record { number = k; place = p })
+
+-- the part of the text where flag i of the list first stands, i counted from 1; a number that no flag has is refused 11
+unfoldable pub nameIn : List Flag → ℕ → Named
+nameIn [] i = unnamed 11 0
+nameIn (f ∷ u) zero = unnamed 11 0
+nameIn (f ∷ u) (suc zero) = named.Part (f .place) (length (f .name))
+nameIn (f ∷ u) (suc (suc i)) = nameIn u (suc i)
+
+-- what name answers
+unfoldable pub nameAnswer : Reading → ℕ → Named
+nameAnswer (refusal k p) i = unnamed k p
+nameAnswer (guard g u) i = nameIn u i
+
+-- the bytes of a part of the text; a refusal hands back none
+unfoldable pub partOf : List ℕ → Named → List ℕ
+partOf text (named.Part start len) = choose (leb (start + len) (length text)) (take len (drop start text)) []
+partOf text (named.Refused f) = []
+
+-- the first k codes of the table end no earlier than they start
+pub record Spans (codes : List ℕ) (k : ℕ) : Type 0 where
+  pub room : 2 * k ≤ length codes
+  pub starts : (i : ℕ) → i < k → startOf codes i ≤ endOf codes i
+
+-- the part that code i of the table is, i counted from 1
+abbrev pub namedIn : List ℕ → ℕ → ℕ → Named
+namedIn codes k i = choose (ltb 0 i) (choose (leb i k) (named.Part (startOf codes (i - 1)) (endOf codes (i - 1) - startOf codes (i - 1))) (unnamed 11 0)) (unnamed 11 0)
