@@ -1,0 +1,125 @@
+-- A guard as text: what is written of any tree, with brackets only where the levels need them.
+use Prim.Native.Nat.{ℕ, suc, _+_, _≤_, max}
+use mathlib.Core.Path.{_≡_}
+use mathlib.Core.Bool.{Bool, true, false}
+use mathlib.Core.List.{List, [], _∷_, _++_, map}
+use mathlib.Core.Logic.{_⊎_}
+use lib.ListN.{length}
+use lib.Dec.{eqb, ltb}
+use Rattle.notation.specs.Ceilings.{textCeiling, codeCeiling, bracketCeiling, flagCeiling, connectiveCeiling}
+use Rattle.notation.specs.Tokens.{Code, Sign, same, implies, or, and, choose, codeByte}
+use Rattle.notation.specs.Walk.{Flag}
+use Rattle.notation.specs.Guard.{Guard, flag, truth, negated, joined, connectives}
+use Rattle.notation.specs.Reading.{reading, guard}
+
+-- the signs `=`, `>`, `|` and `&` as bytes
+unfoldable pub signByte : Sign → ℕ
+signByte same = 61
+signByte implies = 62
+signByte or = 124
+signByte and = 38
+
+-- the level of a sign, from the loosest; operands stand at level 4
+unfoldable pub levelOf : Sign → ℕ
+levelOf same = 0
+levelOf implies = 1
+levelOf or = 2
+levelOf and = 3
+
+-- the level at which the left side of a sign stands: its own where it groups to the left
+unfoldable pub leftOf : Sign → ℕ
+leftOf same = 0
+leftOf implies = 2
+leftOf or = 2
+leftOf and = 3
+
+-- the level at which the right side of a sign stands: its own where it groups to the right
+unfoldable pub rightOf : Sign → ℕ
+rightOf same = 1
+rightOf implies = 1
+rightOf or = 3
+rightOf and = 4
+
+-- a text, in brackets where they are needed
+unfoldable pub bracketed : Bool → List ℕ → List ℕ
+bracketed needed text = choose needed (40 ∷ (text ++ (41 ∷ []))) text
+
+-- the text of a guard where one of the level l may stand: a looser sign stands in brackets
+unfoldable pub written : (ℕ → Code) → ℕ → Guard → List ℕ
+written codes l (flag i) = codes i
+written codes l (truth b) = 35 ∷ choose b 49 48 ∷ []
+written codes l (negated g) = 33 ∷ written codes 4 g
+written codes l (joined s g h) =
+    bracketed (ltb (levelOf s) l) (written codes (leftOf s) g ++ (signByte s ∷ written codes (rightOf s) h))
+
+-- how many brackets are open at once in that text
+unfoldable pub nesting : ℕ → Guard → ℕ
+nesting l (flag i) = 0
+nesting l (truth b) = 0
+nesting l (negated g) = nesting 4 g
+nesting l (joined s g h) = choose (ltb (levelOf s) l) 1 0 + max (nesting (leftOf s) g) (nesting (rightOf s) h)
+
+-- flag i stands in a guard
+abbrev pub Stands : ℕ → Guard → Type 0
+Stands i (flag j) = i ≡ j
+Stands i (truth b) = ⊥
+Stands i (negated g) = Stands i g
+Stands i (joined s g h) = Stands i g ⊎ Stands i h
+
+-- a number is one of a list
+unfoldable pub among : ℕ → List ℕ → Bool
+among i [] = false
+among i (j ∷ w) = choose (eqb i j) true (among i w)
+
+-- the flags met after w by going through a guard from the left, each once
+unfoldable pub met : List ℕ → Guard → List ℕ
+met w (flag i) = choose (among i w) w (w ++ (i ∷ []))
+met w (truth b) = w
+met w (negated g) = met w g
+met w (joined s g h) = met (met w g) h
+
+-- the flags of a guard by first appearance
+unfoldable pub order : Guard → List ℕ
+order g = met [] g
+
+-- the place of a number in a list, counted from 1
+unfoldable pub placeIn : List ℕ → ℕ → ℕ
+placeIn [] i = 1
+placeIn (j ∷ w) i = choose (eqb i j) 1 (suc (placeIn w i))
+
+-- a guard with other numbers for its flags
+unfoldable pub renamed : (ℕ → ℕ) → Guard → Guard
+renamed f (flag i) = flag (f i)
+renamed f (truth b) = truth b
+renamed f (negated g) = negated (renamed f g)
+renamed f (joined s g h) = joined s (renamed f g) (renamed f h)
+
+-- a guard with its flags numbered by first appearance
+unfoldable pub renumbered : Guard → Guard
+renumbered g = renamed (placeIn (order g)) g
+
+-- every byte is a code byte
+unfoldable pub codeBytes : Code → Bool
+codeBytes [] = true
+codeBytes (b ∷ c) = choose (codeByte b) (codeBytes c) false
+
+-- a code: 1 to 12 code bytes
+pub record IsCode (c : Code) : Type 0 where
+  pub some : 1 ≤ length c
+  pub short : length c ≤ codeCeiling
+  pub bytes : codeBytes c ≡ true
+
+-- the guard g, its flags written by their codes, is within the ceilings
+pub record WithinCeilings (codes : ℕ → Code) (g : Guard) : Type 0 where
+  pub coded : (i : ℕ) → Stands i g → IsCode (codes i)
+  pub apart : (i j : ℕ) → Stands i g → Stands j g → codes i ≡ codes j → i ≡ j
+  pub flags : length (order g) ≤ flagCeiling
+  pub connectives : connectives g ≤ connectiveCeiling
+  pub brackets : nesting 0 g ≤ bracketCeiling
+  pub text : length (written codes 0 g) ≤ textCeiling
+
+-- reading what is written of g gives g, its flags numbered by first appearance, and their codes in that order
+pub record ReadBack (codes : ℕ → Code) (g : Guard) : Type 0 where
+  pub flags : List Flag
+  pub read : reading (written codes 0 g) ≡ guard (renumbered g) flags
+  pub named : map (λ (f : Flag). f .name) flags ≡ map codes (order g)
