@@ -1,0 +1,193 @@
+-- How the levels read what is written: a text that a level reads, wherever it stands, and the ways to make such texts of shorter ones.
+use Prim.Native.Nat.{ℕ, zero, suc, _+_, _-_, _≤_, _<_, max}
+use native.Mathlib.Nat.{le-max-left, le-max-right}
+use native.Mathlib.Omega.{arith}
+use mathlib.Core.Path.{_≡_, refl, sym, ap, subst, _∙_}
+use mathlib.Core.List.{List, [], _∷_, _++_, append-assoc}
+use lib.ListN.{length}
+use Rattle.notation.specs.Ceilings.{connectiveCeiling, bracketCeiling}
+use Rattle.notation.specs.Tokens.{Code, Sign, Tokens, tokensFrom}
+use Rattle.notation.specs.Walk.{Flag}
+use Rattle.notation.specs.Guard.{Guard, joined, connectives}
+use Rattle.notation.specs.Grammar.{Level, leftLevel, rightLevel, toTheRight}
+use Rattle.notation.specs.Levels.{binding, plain, Reads}
+use Rattle.notation.proofs.Leveling.{Chain, chain-first, chain-more, chain-done, right-one, right-two}
+use Rattle.notation.proofs.Writing.{connectives-joined}
+use Rattle.reading_back.specs.Written.{signByte, Stands, met, order, placeIn, renamed, WithinCeilings}
+use Rattle.reading_back.proofs.Codes.{Matches, Begins, begins-earlier}
+use Rattle.reading_back.proofs.Cutting.{Parted, Stops, sign-parted, sign-stops, sign-next, sign-past}
+
+-- other numbers for the flags leave the connectives
+pub renamed-connectives : (f : ℕ → ℕ) (g : Guard) → connectives (renamed f g) ≡ connectives g
+unfolding connectives renamed
+renamed-connectives f (Guard.flag i) = refl
+renamed-connectives f (Guard.truth b) = refl
+renamed-connectives f (Guard.negated g) = renamed-connectives f g
+renamed-connectives f (joined s g h) = rw (renamed-connectives f g, renamed-connectives f h)
+
+module _ (codes : ℕ → Code) (whole : Guard) (ceilings : WithinCeilings codes whole) where
+  -- the codes seen are those of the flags w of the whole guard
+  abbrev pub Met : List ℕ → List Flag → Type 0
+  Met w u = Matches codes (λ i. Stands i whole) (ceilings .apart) w u
+
+  -- a guard with its flags numbered as in the whole
+  abbrev pub numbered : Guard → Guard
+  numbered g = renamed (placeIn (order whole)) g
+
+  -- the guard g may be read here, with n brackets more open at once, before a rest at which a level of tightness k stops
+  pub record Ready (n k : ℕ) (g : Guard) (d m : ℕ) (w : List ℕ) (u : List Flag) (rest : List ℕ) : Type 0 where
+    pub brackets : d + n ≤ bracketCeiling
+    pub signs : m + connectives g ≤ connectiveCeiling
+    pub matches : Met w u
+    pub begins : Begins (met w g) (order whole)
+    pub parted : Parted rest
+    pub stops : Stops k rest
+
+  -- the level L reads the text at place p as the guard g, up to the rest
+  pub record Back (L : ℕ → Level) (d k m p : ℕ) (w : List ℕ) (u : List Flag) (text rest : List ℕ) (g : Guard) : Type 0 where
+    pub flags : List Flag
+    pub count : ℕ
+    pub place : ℕ
+    pub matches : Met (met w g) flags
+    pub reads : Reads L d k u m (tokensFrom p 0 (text ++ rest)) (numbered g) flags count (tokensFrom place 0 rest)
+
+  -- the same of a chain that the sign s may go on with
+  pub record BackChain (s : Sign) (next : Level) (d k m p : ℕ) (w : List ℕ) (u : List Flag) (text rest : List ℕ) (g : Guard) : Type 0 where
+    pub flags : List Flag
+    pub count : ℕ
+    pub place : ℕ
+    pub matches : Met (met w g) flags
+    pub chain : Chain s next d k u m (tokensFrom p 0 (text ++ rest)) (numbered g) flags count (tokensFrom place 0 rest)
+
+  -- wherever it may be read
+  abbrev pub ReadsAs : (ℕ → ℕ → Level) → ℕ → ℕ → List ℕ → Guard → Type 0
+  ReadsAs L k n text g =
+      (d m p : ℕ) (w : List ℕ) (u : List Flag) (rest : List ℕ) → Ready n k g d m w u rest → Back (L d) d k m p w u text rest g
+
+  abbrev pub ChainsAs : Sign → (ℕ → Level) → ℕ → ℕ → List ℕ → Guard → Type 0
+  ChainsAs s next k n text g =
+      (d m p : ℕ) (w : List ℕ) (u : List Flag) (rest : List ℕ) → Ready n k g d m w u rest → BackChain s (next d) d k m p w u text rest g
+
+  -- a level that stops at more signs
+  looser : {n k j : ℕ} {g : Guard} {d m : ℕ} {w : List ℕ} {u : List Flag} {rest : List ℕ} → k ≤ j → Ready n j g d m w u rest → Ready n k g d m w u rest
+  looser l a = record {
+    brackets = a .brackets;
+    signs = a .signs;
+    matches = a .matches;
+    begins = a .begins;
+    parted = a .parted;
+    stops = λ q t h. a .stops q t (omega arith);
+  }
+
+  module _ (s : Sign) (next : ℕ → Level) (k : ℕ) (tight : binding s ≡ k + 1) where
+    -- the first operand of a chain
+    pub chain-start : {n : ℕ} {text : List ℕ} {g : Guard} → ReadsAs (λ d. plain (next d)) k n text g → ChainsAs s next k n text g
+    chain-start r d m p w u rest a =
+        let x = r d m p w u rest a in
+        record { flags = x .flags; count = x .count; place = x .place; matches = x .matches; chain = chain-first s (next d) d k _ _ _ (x .reads) }
+
+    -- a chain that does not go on
+    pub chain-end : {n : ℕ} {text : List ℕ} {g : Guard} → ChainsAs s next k n text g → ReadsAs (λ d. plain (leftLevel s (next d))) (k + 1) n text g
+    chain-end c d m p w u rest a =
+        let x = c d m p w u rest (looser (omega arith) a) in
+        record {
+          flags = x .flags;
+          count = x .count;
+          place = x .place;
+          matches = x .matches;
+          reads = chain-done s (next d) d k _ _ _ (x .chain) (a .stops (x .place) s (omega arith)) tight;
+        }
+
+    -- a single operand of a level that groups to the right
+    pub right-end : {n : ℕ} {text : List ℕ} {g : Guard} → ReadsAs (λ d. plain (next d)) k n text g → ReadsAs (λ d. toTheRight s (next d)) (k + 1) n text g
+    right-end r d m p w u rest a =
+        let x = r d m p w u rest (looser (omega arith) a) in
+        record {
+          flags = x .flags;
+          count = x .count;
+          place = x .place;
+          matches = x .matches;
+          reads = right-one s (next d) d k _ _ _ (x .reads) (a .stops (x .place) s (omega arith)) tight;
+        }
+
+    module _ (n₁ n₂ j : ℕ) {g h : Guard} (d m : ℕ) (w : List ℕ) (u : List Flag) (rest : List ℕ) (a : Ready (max n₁ n₂) j (joined s g h) d m w u rest) where
+      -- the left side may be read before the sign
+      ready-left : (t : List ℕ) → Ready n₁ k g d m w u (signByte s ∷ t)
+      unfolding met
+      ready-left t = record {
+        brackets = omega (arith, le-max-left n₁ n₂, a .brackets);
+        signs = omega (arith, a .signs, connectives-joined s g h);
+        matches = a .matches;
+        begins = begins-earlier (met w g) h (order whole) (a .begins);
+        parted = sign-parted s t;
+        stops = sign-stops k s t (omega arith);
+      }
+
+      -- and the right side behind it, where i connectives are counted
+      ready-right : (i : ℕ) (v : List Flag) → i ≡ m + connectives (numbered g) → Met (met w g) v → Ready n₂ j h d (i + 1) (met w g) v rest
+      unfolding met
+      ready-right i v e q = record {
+        brackets = omega (arith, le-max-right n₁ n₂, a .brackets);
+        signs = omega (arith, a .signs, connectives-joined s g h, renamed-connectives (placeIn (order whole)) g);
+        matches = q;
+        begins = a .begins;
+        parted = a .parted;
+        stops = a .stops;
+      }
+
+      fewer : (i : ℕ) → i ≡ m + connectives (numbered g) → i < connectiveCeiling
+      fewer i e = omega (arith, a .signs, connectives-joined s g h, renamed-connectives (placeIn (order whole)) g)
+
+    -- one operand more joins a chain
+    pub chain-join : {n₁ n₂ : ℕ} {t₁ t₂ : List ℕ} {g h : Guard} → ChainsAs s next k n₁ t₁ g → ReadsAs (λ d. plain (next d)) k n₂ t₂ h →
+        ChainsAs s next k (max n₁ n₂) (t₁ ++ (signByte s ∷ t₂)) (joined s g h)
+    unfolding met renamed
+    chain-join {n₁} {n₂} {t₁} {t₂} {g} {h} c r d m p w u rest a =
+        let x = c d m p w u (signByte s ∷ (t₂ ++ rest)) (ready-left n₁ n₂ k d m w u rest a (t₂ ++ rest)) in
+        let y = r d (x .count + 1) (suc (x .place)) (met w g) (x .flags) rest (ready-right n₁ n₂ k d m w u rest a (x .count) (x .flags) (x .chain .signs) (x .matches)) in
+        record {
+          flags = y .flags;
+          count = y .count;
+          place = y .place;
+          matches = y .matches;
+          chain =
+              rw (append-assoc t₁ (signByte s ∷ t₂) rest)
+              (chain-more s (next d) d k _ _ _ (x .chain) (sign-next (x .place) s (t₂ ++ rest)) (fewer n₁ n₂ k d m w u rest a (x .count) (x .chain .signs))
+              (rw (sign-past (x .place) s (t₂ ++ rest)) (y .reads)));
+        }
+
+    -- an operand and all that follows, of a level that groups to the right
+    pub right-join : {n₁ n₂ : ℕ} {t₁ t₂ : List ℕ} {g h : Guard} → ReadsAs (λ d. plain (next d)) k n₁ t₁ g → ReadsAs (λ d. toTheRight s (next d)) (k + 1) n₂ t₂ h →
+        ReadsAs (λ d. toTheRight s (next d)) (k + 1) (max n₁ n₂) (t₁ ++ (signByte s ∷ t₂)) (joined s g h)
+    unfolding met renamed
+    right-join {n₁} {n₂} {t₁} {t₂} {g} {h} c r d m p w u rest a =
+        let x = c d m p w u (signByte s ∷ (t₂ ++ rest)) (ready-left n₁ n₂ (k + 1) d m w u rest a (t₂ ++ rest)) in
+        let y = r d (x .count + 1) (suc (x .place)) (met w g) (x .flags) rest (ready-right n₁ n₂ (k + 1) d m w u rest a (x .count) (x .flags) (x .reads .signs) (x .matches)) in
+        record {
+          flags = y .flags;
+          count = y .count;
+          place = y .place;
+          matches = y .matches;
+          reads =
+              rw (append-assoc t₁ (signByte s ∷ t₂) rest)
+              (right-two s (next d) d k _ _ _ (x .reads) (sign-next (x .place) s (t₂ ++ rest)) (fewer n₁ n₂ (k + 1) d m w u rest a (x .count) (x .reads .signs))
+              (rw (sign-past (x .place) s (t₂ ++ rest)) (y .reads)));
+        }
+
+    -- a level that groups to the right has all the room that there can be
+    pub right-whole : {n j : ℕ} {text : List ℕ} {g : Guard} → ReadsAs (λ d. toTheRight s (next d)) j n text g → ReadsAs (λ d. plain (rightLevel s (next d))) j n text g
+    unfolding rightLevel
+    right-whole r d m p w u rest a =
+        let x = r d m p w u rest a in
+        record {
+          flags = x .flags;
+          count = x .count;
+          place = x .place;
+          matches = x .matches;
+          reads = record {
+            parsed = λ _ _. x .reads .parsed connectiveCeiling (omega arith);
+            walked = x .reads .walked;
+            signs = x .reads .signs;
+            stops = x .reads .stops;
+          };
+        }
