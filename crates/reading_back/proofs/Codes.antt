@@ -13,7 +13,7 @@ use Rattle.notation.specs.Walk.{Flag, sameCode, known, seen}
 use Rattle.notation.specs.Guard.{Guard, flag, truth, negated, joined}
 use Rattle.notation.specs.Grammar.{number}
 use Rattle.notation.proofs.Cases.{either, split-eq}
-use Rattle.reading_back.specs.Written.{among, met, placeIn}
+use Rattle.reading_back.specs.Written.{among, met, placeIn, Placed, EachPlaced}
 
 -- two codes that are the same have the same bytes
 same-bytes : (c d : Code) → sameCode c d ≡ true → c ≡ d
@@ -55,12 +55,12 @@ begins-earlier w (joined s g k) all h = begins-earlier w g all (begins-earlier (
 pub begins-length : (w all : List ℕ) → Begins w all → length w ≤ length all
 begins-length w all b = omega (arith, length-append w (b .more), ap length (b .split))
 
--- the codes of flags with the property P are told apart
-module _ (codes : ℕ → Code) (P : ℕ → Type 0) (apart : (i j : ℕ) → P i → P j → codes i ≡ codes j → i ≡ j) where
+-- the codes of flags with the property P are told apart; what was seen of them has the property Q
+module _ (codes : ℕ → Code) (P : ℕ → Type 0) (Q : Flag → Type 0) (apart : (i j : ℕ) → P i → P j → codes i ≡ codes j → i ≡ j) where
   -- the codes seen are those of the flags w
   pub data Matches : List ℕ → List Flag → Type 0 where
     nothing : Matches [] []
-    one : {j : ℕ} {w : List ℕ} {f : Flag} {u : List Flag} → P j → f .name ≡ codes j → Matches w u → Matches (j ∷ w) (f ∷ u)
+    one : {j : ℕ} {w : List ℕ} {f : Flag} {u : List Flag} → P j → Q f → f .name ≡ codes j → Matches w u → Matches (j ∷ w) (f ∷ u)
 
   same-is : (i j : ℕ) → P i → P j → sameCode (codes i) (codes j) ≡ eqb i j
   same-is i j p q =
@@ -79,35 +79,40 @@ module _ (codes : ℕ → Code) (P : ℕ → Type 0) (apart : (i j : ℕ) → P 
 
   pub matches-length : {w : List ℕ} {u : List Flag} → Matches w u → length u ≡ length w
   matches-length nothing = refl
-  matches-length (one p e m) = ap suc (matches-length m)
+  matches-length (one p z e m) = ap suc (matches-length m)
 
   pub matches-names : {w : List ℕ} {u : List Flag} → Matches w u → map (λ (f : Flag). f .name) u ≡ map codes w
   matches-names nothing = refl
-  matches-names (one {j} {w} {f} {u} p e m) = rw (e, matches-names m)
+  matches-names (one {j} {w} {f} {u} p z e m) = rw (e, matches-names m)
+
+  -- what is seen of each
+  pub matches-each : (text : List ℕ) → ((f : Flag) → Q f → Placed text f) → {w : List ℕ} {u : List Flag} → Matches w u → EachPlaced text u
+  matches-each text is nothing = tt
+  matches-each text is (one {j} {w} {f} {u} p z e m) = (is f z, matches-each text is m)
 
   -- a code is known where its flag has been met
   known-is : {w : List ℕ} {u : List Flag} (i : ℕ) → P i → Matches w u → known (codes i) u ≡ among i w
   unfolding known among
   known-is i p nothing = refl
-  known-is i p (one {j} {w} {f} {u} q e m) = rw (seen-is i j f p q e, known-is i p m)
+  known-is i p (one {j} {w} {f} {u} q z e m) = rw (seen-is i j f p q e, known-is i p m)
 
-  matches-end : {w : List ℕ} {u : List Flag} (i : ℕ) (f : Flag) → P i → f .name ≡ codes i → Matches w u → Matches (w ++ (i ∷ [])) (u ++ (f ∷ []))
-  matches-end i f p e nothing = one p e nothing
-  matches-end i f p e (one q d m) = one q d (matches-end i f p e m)
+  matches-end : {w : List ℕ} {u : List Flag} (i : ℕ) (f : Flag) → P i → Q f → f .name ≡ codes i → Matches w u → Matches (w ++ (i ∷ [])) (u ++ (f ∷ []))
+  matches-end i f p z e nothing = one p z e nothing
+  matches-end i f p z e (one q y d m) = one q y d (matches-end i f p z e m)
 
   -- one more code seen
-  pub matches-seen : {w : List ℕ} {u : List Flag} (i at : ℕ) → P i → Matches w u → Matches (met w (flag i)) (seen at (codes i) u)
+  pub matches-seen : {w : List ℕ} {u : List Flag} (i at : ℕ) → P i → Q (record { place = at; name = codes i }) → Matches w u → Matches (met w (flag i)) (seen at (codes i) u)
   unfolding met seen
-  matches-seen {w} {u} i at p m =
+  matches-seen {w} {u} i at p z m =
       ⊎-elim
       (λ (e : among i w ≡ true). rw (known-is i p m, e) m)
-      (λ (e : among i w ≡ false). rw (known-is i p m, e) (matches-end i (record { place = at; name = codes i }) p refl m))
+      (λ (e : among i w ≡ false). rw (known-is i p m, e) (matches-end i (record { place = at; name = codes i }) p z refl m))
       (either (among i w))
 
   number-met : {w : List ℕ} {u : List Flag} (i : ℕ) (more : List ℕ) → P i → Matches w u → among i w ≡ true → number (codes i) u ≡ placeIn (w ++ more) i
   unfolding number placeIn among
   number-met i more p nothing h = absurd (false≢true h)
-  number-met i more p (one {j} {w} {f} {u} q e m) h =
+  number-met i more p (one {j} {w} {f} {u} q z e m) h =
       ⊎-elim
       (λ (t : eqb i j ≡ true). rw (seen-is i j f p q e, t))
       (λ (t : eqb i j ≡ false). let k : among i w ≡ true = rw t at h in rw (seen-is i j f p q e, t, number-met i more p m k))
@@ -116,7 +121,7 @@ module _ (codes : ℕ → Code) (P : ℕ → Type 0) (apart : (i j : ℕ) → P 
   number-new : {w : List ℕ} {u : List Flag} (i : ℕ) (more : List ℕ) → P i → Matches w u → among i w ≡ false → number (codes i) u ≡ placeIn ((w ++ (i ∷ [])) ++ more) i
   unfolding number placeIn among
   number-new i more p nothing h = rw (eq-eqb i i refl)
-  number-new i more p (one {j} {w} {f} {u} q e m) h =
+  number-new i more p (one {j} {w} {f} {u} q z e m) h =
       ⊎-elim
       (λ (t : eqb i j ≡ true). let k : true ≡ false = rw t at h in absurd (false≢true (sym k)))
       (λ (t : eqb i j ≡ false). let k : among i w ≡ false = rw t at h in rw (seen-is i j f p q e, t, number-new i more p m k))

@@ -1,10 +1,12 @@
 -- How the levels read what is written: a text that a level reads, wherever it stands, and the ways to make such texts of shorter ones.
 use Prim.Native.Nat.{ℕ, zero, suc, _+_, _-_, _≤_, _<_, max}
 use native.Mathlib.Nat.{le-max-left, le-max-right}
+use native.Mathlib.Numerals.{add-one}
 use native.Mathlib.Omega.{arith}
 use mathlib.Core.Path.{_≡_, refl, sym, ap, subst, _∙_}
 use mathlib.Core.List.{List, [], _∷_, _++_, append-assoc}
-use lib.ListN.{length}
+use lib.ListN.{length, drop}
+use lib.Seq.{drop-drop, drop-at}
 use Rattle.notation.specs.Ceilings.{connectiveCeiling, bracketCeiling}
 use Rattle.notation.specs.Tokens.{Code, Sign, Tokens, tokensFrom}
 use Rattle.notation.specs.Walk.{Flag}
@@ -13,7 +15,7 @@ use Rattle.notation.specs.Grammar.{Level, leftLevel, rightLevel, toTheRight}
 use Rattle.notation.specs.Levels.{binding, plain, Reads}
 use Rattle.notation.proofs.Leveling.{Chain, chain-first, chain-more, chain-done, right-one, right-two}
 use Rattle.notation.proofs.Writing.{connectives-joined}
-use Rattle.reading_back.specs.Written.{signByte, Stands, met, order, placeIn, renamed, WithinCeilings}
+use Rattle.reading_back.specs.Written.{signByte, Stands, met, order, placeIn, renamed, written, Placed, WithinCeilings}
 use Rattle.reading_back.proofs.Codes.{Matches, Begins, begins-earlier}
 use Rattle.reading_back.proofs.Cutting.{Parted, Stops, sign-parted, sign-stops, sign-next, sign-past}
 
@@ -25,17 +27,29 @@ renamed-connectives f (Guard.truth b) = refl
 renamed-connectives f (Guard.negated g) = renamed-connectives f g
 renamed-connectives f (joined s g h) = rw (renamed-connectives f g, renamed-connectives f h)
 
+-- past what stands first in the bytes from a place on
+pub after-part : (text c r : List ℕ) (q : ℕ) → drop q text ≡ c ++ r → drop (q + length c) text ≡ r
+after-part text c r q e = sym (drop-drop (length c) q text) ∙ ap (drop (length c)) e ∙ drop-at c r (length c) refl
+
+pub after-byte : (text : List ℕ) (b : ℕ) (r : List ℕ) (q : ℕ) → drop q text ≡ b ∷ r → drop (suc q) text ≡ r
+after-byte text b r q e = rw (← add-one q) (after-part text (b ∷ []) r q e)
+
 module _ (codes : ℕ → Code) (whole : Guard) (ceilings : WithinCeilings codes whole) where
   -- the codes seen are those of the flags w of the whole guard
   abbrev pub Met : List ℕ → List Flag → Type 0
-  Met w u = Matches codes (λ i. Stands i whole) (ceilings .apart) w u
+  Met w u = Matches codes (λ i. Stands i whole) (Placed (written codes 0 whole)) (ceilings .apart) w u
+
+  -- the bytes of the whole text from place p on
+  abbrev pub from : ℕ → List ℕ
+  from p = drop p (written codes 0 whole)
 
   -- a guard with its flags numbered as in the whole
   abbrev pub numbered : Guard → Guard
   numbered g = renamed (placeIn (order whole)) g
 
-  -- the guard g may be read here, with n brackets more open at once, before a rest at which a level of tightness k stops
-  pub record Ready (n k : ℕ) (g : Guard) (d m : ℕ) (w : List ℕ) (u : List Flag) (rest : List ℕ) : Type 0 where
+  -- the text of the guard g may be read here, with n brackets more open at once, before a rest at which a level of tightness k stops
+  pub record Ready (n k : ℕ) (g : Guard) (d m p : ℕ) (w : List ℕ) (u : List Flag) (text rest : List ℕ) : Type 0 where
+    pub here : from p ≡ text ++ rest
     pub brackets : d + n ≤ bracketCeiling
     pub signs : m + connectives g ≤ connectiveCeiling
     pub matches : Met w u
@@ -48,6 +62,7 @@ module _ (codes : ℕ → Code) (whole : Guard) (ceilings : WithinCeilings codes
     pub flags : List Flag
     pub count : ℕ
     pub place : ℕ
+    pub there : from place ≡ rest
     pub matches : Met (met w g) flags
     pub reads : Reads L d k u m (tokensFrom p 0 (text ++ rest)) (numbered g) flags count (tokensFrom place 0 rest)
 
@@ -56,21 +71,23 @@ module _ (codes : ℕ → Code) (whole : Guard) (ceilings : WithinCeilings codes
     pub flags : List Flag
     pub count : ℕ
     pub place : ℕ
+    pub there : from place ≡ rest
     pub matches : Met (met w g) flags
     pub chain : Chain s next d k u m (tokensFrom p 0 (text ++ rest)) (numbered g) flags count (tokensFrom place 0 rest)
 
   -- wherever it may be read
   abbrev pub ReadsAs : (ℕ → ℕ → Level) → ℕ → ℕ → List ℕ → Guard → Type 0
   ReadsAs L k n text g =
-      (d m p : ℕ) (w : List ℕ) (u : List Flag) (rest : List ℕ) → Ready n k g d m w u rest → Back (L d) d k m p w u text rest g
+      (d m p : ℕ) (w : List ℕ) (u : List Flag) (rest : List ℕ) → Ready n k g d m p w u text rest → Back (L d) d k m p w u text rest g
 
   abbrev pub ChainsAs : Sign → (ℕ → Level) → ℕ → ℕ → List ℕ → Guard → Type 0
   ChainsAs s next k n text g =
-      (d m p : ℕ) (w : List ℕ) (u : List Flag) (rest : List ℕ) → Ready n k g d m w u rest → BackChain s (next d) d k m p w u text rest g
+      (d m p : ℕ) (w : List ℕ) (u : List Flag) (rest : List ℕ) → Ready n k g d m p w u text rest → BackChain s (next d) d k m p w u text rest g
 
   -- a level that stops at more signs
-  looser : {n k j : ℕ} {g : Guard} {d m : ℕ} {w : List ℕ} {u : List Flag} {rest : List ℕ} → k ≤ j → Ready n j g d m w u rest → Ready n k g d m w u rest
+  looser : {n k j : ℕ} {g : Guard} {d m p : ℕ} {w : List ℕ} {u : List Flag} {text rest : List ℕ} → k ≤ j → Ready n j g d m p w u text rest → Ready n k g d m p w u text rest
   looser l a = record {
+    here = a .here;
     brackets = a .brackets;
     signs = a .signs;
     matches = a .matches;
@@ -84,7 +101,7 @@ module _ (codes : ℕ → Code) (whole : Guard) (ceilings : WithinCeilings codes
     pub chain-start : {n : ℕ} {text : List ℕ} {g : Guard} → ReadsAs (λ d. plain (next d)) k n text g → ChainsAs s next k n text g
     chain-start r d m p w u rest a =
         let x = r d m p w u rest a in
-        record { flags = x .flags; count = x .count; place = x .place; matches = x .matches; chain = chain-first s (next d) d k _ _ _ (x .reads) }
+        record { flags = x .flags; count = x .count; place = x .place; there = x .there; matches = x .matches; chain = chain-first s (next d) d k _ _ _ (x .reads) }
 
     -- a chain that does not go on
     pub chain-end : {n : ℕ} {text : List ℕ} {g : Guard} → ChainsAs s next k n text g → ReadsAs (λ d. plain (leftLevel s (next d))) (k + 1) n text g
@@ -94,6 +111,7 @@ module _ (codes : ℕ → Code) (whole : Guard) (ceilings : WithinCeilings codes
           flags = x .flags;
           count = x .count;
           place = x .place;
+          there = x .there;
           matches = x .matches;
           reads = chain-done s (next d) d k _ _ _ (x .chain) (a .stops (x .place) s (omega arith)) tight;
         }
@@ -106,30 +124,35 @@ module _ (codes : ℕ → Code) (whole : Guard) (ceilings : WithinCeilings codes
           flags = x .flags;
           count = x .count;
           place = x .place;
+          there = x .there;
           matches = x .matches;
           reads = right-one s (next d) d k _ _ _ (x .reads) (a .stops (x .place) s (omega arith)) tight;
         }
 
-    module _ (n₁ n₂ j : ℕ) {g h : Guard} (d m : ℕ) (w : List ℕ) (u : List Flag) (rest : List ℕ) (a : Ready (max n₁ n₂) j (joined s g h) d m w u rest) where
+    module _ (n₁ n₂ j : ℕ) {g h : Guard} (d m p : ℕ) (w : List ℕ) (u : List Flag) (t₁ t₂ rest : List ℕ)
+        (a : Ready (max n₁ n₂) j (joined s g h) d m p w u (t₁ ++ (signByte s ∷ t₂)) rest) where
       -- the left side may be read before the sign
-      ready-left : (t : List ℕ) → Ready n₁ k g d m w u (signByte s ∷ t)
+      ready-left : Ready n₁ k g d m p w u t₁ (signByte s ∷ (t₂ ++ rest))
       unfolding met
-      ready-left t = record {
+      ready-left = record {
+        here = a .here ∙ append-assoc t₁ (signByte s ∷ t₂) rest;
         brackets = omega (arith, le-max-left n₁ n₂, a .brackets);
         signs = omega (arith, a .signs, connectives-joined s g h);
         matches = a .matches;
         begins = begins-earlier (met w g) h (order whole) (a .begins);
-        parted = sign-parted s t;
-        stops = sign-stops k s t (omega arith);
+        parted = sign-parted s (t₂ ++ rest);
+        stops = sign-stops k s (t₂ ++ rest) (omega arith);
       }
 
       -- and the right side behind it, where i connectives are counted
-      ready-right : (i : ℕ) (v : List Flag) → i ≡ m + connectives (numbered g) → Met (met w g) v → Ready n₂ j h d (i + 1) (met w g) v rest
+      ready-right : (i q : ℕ) (v : List Flag) → i ≡ m + connectives (numbered g) → from q ≡ signByte s ∷ (t₂ ++ rest) → Met (met w g) v →
+          Ready n₂ j h d (i + 1) (suc q) (met w g) v t₂ rest
       unfolding met
-      ready-right i v e q = record {
+      ready-right i q v e f y = record {
+        here = after-byte (written codes 0 whole) (signByte s) (t₂ ++ rest) q f;
         brackets = omega (arith, le-max-right n₁ n₂, a .brackets);
         signs = omega (arith, a .signs, connectives-joined s g h, renamed-connectives (placeIn (order whole)) g);
-        matches = q;
+        matches = y;
         begins = a .begins;
         parted = a .parted;
         stops = a .stops;
@@ -143,16 +166,17 @@ module _ (codes : ℕ → Code) (whole : Guard) (ceilings : WithinCeilings codes
         ChainsAs s next k (max n₁ n₂) (t₁ ++ (signByte s ∷ t₂)) (joined s g h)
     unfolding met renamed
     chain-join {n₁} {n₂} {t₁} {t₂} {g} {h} c r d m p w u rest a =
-        let x = c d m p w u (signByte s ∷ (t₂ ++ rest)) (ready-left n₁ n₂ k d m w u rest a (t₂ ++ rest)) in
-        let y = r d (x .count + 1) (suc (x .place)) (met w g) (x .flags) rest (ready-right n₁ n₂ k d m w u rest a (x .count) (x .flags) (x .chain .signs) (x .matches)) in
+        let x = c d m p w u (signByte s ∷ (t₂ ++ rest)) (ready-left n₁ n₂ k d m p w u t₁ t₂ rest a) in
+        let y = r d (x .count + 1) (suc (x .place)) (met w g) (x .flags) rest (ready-right n₁ n₂ k d m p w u t₁ t₂ rest a (x .count) (x .place) (x .flags) (x .chain .signs) (x .there) (x .matches)) in
         record {
           flags = y .flags;
           count = y .count;
           place = y .place;
+          there = y .there;
           matches = y .matches;
           chain =
               rw (append-assoc t₁ (signByte s ∷ t₂) rest)
-              (chain-more s (next d) d k _ _ _ (x .chain) (sign-next (x .place) s (t₂ ++ rest)) (fewer n₁ n₂ k d m w u rest a (x .count) (x .chain .signs))
+              (chain-more s (next d) d k _ _ _ (x .chain) (sign-next (x .place) s (t₂ ++ rest)) (fewer n₁ n₂ k d m p w u t₁ t₂ rest a (x .count) (x .chain .signs))
               (rw (sign-past (x .place) s (t₂ ++ rest)) (y .reads)));
         }
 
@@ -161,16 +185,17 @@ module _ (codes : ℕ → Code) (whole : Guard) (ceilings : WithinCeilings codes
         ReadsAs (λ d. toTheRight s (next d)) (k + 1) (max n₁ n₂) (t₁ ++ (signByte s ∷ t₂)) (joined s g h)
     unfolding met renamed
     right-join {n₁} {n₂} {t₁} {t₂} {g} {h} c r d m p w u rest a =
-        let x = c d m p w u (signByte s ∷ (t₂ ++ rest)) (ready-left n₁ n₂ (k + 1) d m w u rest a (t₂ ++ rest)) in
-        let y = r d (x .count + 1) (suc (x .place)) (met w g) (x .flags) rest (ready-right n₁ n₂ (k + 1) d m w u rest a (x .count) (x .flags) (x .reads .signs) (x .matches)) in
+        let x = c d m p w u (signByte s ∷ (t₂ ++ rest)) (ready-left n₁ n₂ (k + 1) d m p w u t₁ t₂ rest a) in
+        let y = r d (x .count + 1) (suc (x .place)) (met w g) (x .flags) rest (ready-right n₁ n₂ (k + 1) d m p w u t₁ t₂ rest a (x .count) (x .place) (x .flags) (x .reads .signs) (x .there) (x .matches)) in
         record {
           flags = y .flags;
           count = y .count;
           place = y .place;
+          there = y .there;
           matches = y .matches;
           reads =
               rw (append-assoc t₁ (signByte s ∷ t₂) rest)
-              (right-two s (next d) d k _ _ _ (x .reads) (sign-next (x .place) s (t₂ ++ rest)) (fewer n₁ n₂ (k + 1) d m w u rest a (x .count) (x .reads .signs))
+              (right-two s (next d) d k _ _ _ (x .reads) (sign-next (x .place) s (t₂ ++ rest)) (fewer n₁ n₂ (k + 1) d m p w u t₁ t₂ rest a (x .count) (x .reads .signs))
               (rw (sign-past (x .place) s (t₂ ++ rest)) (y .reads)));
         }
 
@@ -183,6 +208,7 @@ module _ (codes : ℕ → Code) (whole : Guard) (ceilings : WithinCeilings codes
           flags = x .flags;
           count = x .count;
           place = x .place;
+          there = x .there;
           matches = x .matches;
           reads = record {
             parsed = λ _ _. x .reads .parsed connectiveCeiling (omega arith);

@@ -4,7 +4,7 @@ use mathlib.Core.Path.{_≡_}
 use mathlib.Core.Bool.{Bool, true, false}
 use mathlib.Core.List.{List, [], _∷_, _++_, map}
 use mathlib.Core.Logic.{_⊎_}
-use lib.ListN.{length}
+use lib.ListN.{length, take, drop}
 use lib.Dec.{eqb, ltb}
 use Rattle.notation.specs.Ceilings.{textCeiling, codeCeiling, bracketCeiling, flagCeiling, connectiveCeiling}
 use Rattle.notation.specs.Tokens.{Code, Sign, same, implies, or, and, choose, codeByte}
@@ -118,8 +118,18 @@ pub record WithinCeilings (codes : ℕ → Code) (g : Guard) : Type 0 where
   pub brackets : nesting 0 g ≤ bracketCeiling
   pub text : length (written codes 0 g) ≤ textCeiling
 
+-- the code of a flag stands in the text at the flag's place
+abbrev pub Placed : List ℕ → Flag → Type 0
+Placed text f = take (length (f .name)) (drop (f .place) text) ≡ f .name
+
+-- so for each of a list of flags
+abbrev pub EachPlaced : List ℕ → List Flag → Type 0
+EachPlaced text [] = Unit {0}
+EachPlaced text (f ∷ u) = Placed text f × EachPlaced text u
+
 -- reading what is written of g gives g, its flags numbered by first appearance, and their codes in that order
 pub record ReadBack (codes : ℕ → Code) (g : Guard) : Type 0 where
   pub flags : List Flag
   pub read : reading (written codes 0 g) ≡ guard (renumbered g) flags
   pub named : map (λ (f : Flag). f .name) flags ≡ map codes (order g)
+  pub placed : EachPlaced (written codes 0 g) flags
