@@ -1,3 +1,4 @@
 pub mod Codes
 pub mod Cutting
 pub mod Levels
+pub mod Operands
