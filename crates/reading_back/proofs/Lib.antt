@@ -2,3 +2,4 @@ pub mod Codes
 pub mod Cutting
 pub mod Levels
 pub mod Operands
+pub mod Trees
