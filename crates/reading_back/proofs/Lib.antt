@@ -3,3 +3,4 @@ pub mod Cutting
 pub mod Levels
 pub mod Operands
 pub mod Trees
+pub mod ReadBack

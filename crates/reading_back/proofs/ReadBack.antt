@@ -1,0 +1,64 @@
+-- Reading back: the text of a tree within the ceilings is read as that tree, its flags numbered by first appearance.
+use Prim.Native.Nat.{ℕ, _+_, _*_, _≤_}
+use native.Mathlib.Omega.{arith}
+use mathlib.Core.Path.{_≡_, refl, sym, ap, _∙_}
+use mathlib.Core.List.{List, [], _++_, append-nil}
+use lib.ListN.{length}
+use borrow.Author.Tests.{le-leb}
+use Rattle.notation.specs.Ceilings.{textCeiling, connectiveCeiling, bracketCeiling}
+use Rattle.notation.specs.Tokens.{Code, Tokens, tokens, tokensFrom}
+use Rattle.notation.specs.Walk.{Flag, accepted, walk, operand, after}
+use Rattle.notation.specs.Guard.{Guard}
+use Rattle.notation.specs.Grammar.{found, sameOf, treeOf, tree}
+use Rattle.notation.specs.Levels.{operandsAt}
+use Rattle.notation.specs.Reading.{reading, judged, guard}
+use Rattle.reading_back.specs.Written.{met, order, renumbered, written, nesting, Stands, Placed, WithinCeilings, ReadBack}
+use Rattle.reading_back.proofs.Codes.{nothing, matches-names, matches-each}
+use Rattle.reading_back.proofs.Cutting.{end-parted, end-stops}
+use Rattle.reading_back.proofs.Levels.{Ready, Back}
+use Rattle.reading_back.proofs.Trees.{levelsAt, reads-back}
+
+-- where the walk accepts and the loosest level finds a guard, that guard is read
+read-found : (text : List ℕ) (g : Guard) (u : List Flag) (m : ℕ) (ts : Tokens) → length text ≤ textCeiling →
+    walk operand 0 [] 0 (tokensFrom 0 0 text) ≡ accepted u m → sameOf (operandsAt 0) [] (tokensFrom 0 0 text) ≡ found g u ts → reading text ≡ guard g u
+unfolding reading judged tree treeOf tokens
+read-found text g u m ts h w f = rw (le-leb (length text) textCeiling h, w) (ap (λ (x : Guard). guard x u) (ap treeOf f))
+
+-- past the last byte nothing is left to read
+end-walked : (u : List Flag) (m q : ℕ) → walk after 0 u m (tokensFrom q 0 []) ≡ accepted u m
+unfolding walk tokensFrom
+end-walked u m q = refl
+
+module _ (codes : ℕ → Code) (g : Guard) (ceilings : WithinCeilings codes g) where
+  -- the whole text may be read from its start
+  ready : Ready codes g ceilings (nesting 0 g) 4 g 0 0 0 [] [] (written codes 0 g) []
+  unfolding order
+  ready = record {
+    here = sym (append-nil (written codes 0 g));
+    brackets = omega (arith, ceilings .brackets);
+    signs = omega (arith, ceilings .connectives);
+    matches = nothing;
+    begins = record { more = []; split = append-nil (met [] g) };
+    parted = end-parted;
+    stops = end-stops 4;
+  }
+
+  whole : Back codes g ceilings (levelsAt 0 0) 0 4 0 0 [] [] (written codes 0 g) [] g
+  whole = reads-back codes g ceilings g (λ i e. e) .level 0 (omega arith) 0 0 0 [] [] [] ready
+
+  -- reading what is written of a guard gives that guard
+  pub read-back : ReadBack codes g
+  unfolding order renumbered whole
+  read-back =
+      let nil : written codes 0 g ++ [] ≡ written codes 0 g = append-nil (written codes 0 g) in
+      let P : ℕ → Type 0 = λ i. Stands i g in
+      let Q : Flag → Type 0 = Placed (written codes 0 g) in
+      record {
+        flags = whole .flags;
+        read =
+            read-found (written codes 0 g) (renumbered g) (whole .flags) (whole .count) (tokensFrom (whole .place) 0 []) (ceilings .text)
+            (rw nil at (whole .reads .walked ∙ end-walked (whole .flags) (whole .count) (whole .place)))
+            (rw nil at (whole .reads .parsed connectiveCeiling (omega arith)));
+        named = matches-names codes P Q (ceilings .apart) (whole .matches);
+        placed = matches-each codes P Q (ceilings .apart) (written codes 0 g) (λ f q. q) (whole .matches);
+      }
