@@ -5,7 +5,7 @@ use native.Mathlib.Numerals.{add-one}
 use native.Mathlib.Omega.{arith}
 use mathlib.Core.Path.{_≡_, refl, sym, ap, subst, _∙_}
 use mathlib.Core.List.{List, [], _∷_, _++_, append-assoc}
-use lib.ListN.{length, drop}
+use lib.ListN.{length, drop, length-append}
 use lib.Seq.{drop-drop, drop-at}
 use Rattle.notation.specs.Ceilings.{connectiveCeiling, bracketCeiling}
 use Rattle.notation.specs.Tokens.{Code, Sign, Tokens, tokensFrom}
@@ -26,6 +26,18 @@ renamed-connectives f (Guard.flag i) = refl
 renamed-connectives f (Guard.truth b) = refl
 renamed-connectives f (Guard.negated g) = renamed-connectives f g
 renamed-connectives f (joined s g h) = rw (renamed-connectives f g, renamed-connectives f h)
+
+-- the flags seen after a text, by its place and the flags seen before
+abbrev pub After : Type 0
+After = ℕ → List Flag → List Flag
+
+-- after a text of n bytes, one byte more and a second text
+abbrev pub afterBoth : ℕ → After → After → After
+afterBoth n first second p u = second (suc (p + n)) (first p u)
+
+-- what is seen after the second text, from what is seen after the first
+both-seen : (v w u : List Flag) (p q n : ℕ) (a₁ a₂ : After) → v ≡ a₁ p u → q ≡ p + n → w ≡ a₂ (suc q) v → w ≡ afterBoth n a₁ a₂ p u
+both-seen v w u p q n a₁ a₂ e f k = cc
 
 -- past what stands first in the bytes from a place on
 pub after-part : (text c r : List ℕ) (q : ℕ) → drop q text ≡ c ++ r → drop (q + length c) text ≡ r
@@ -58,31 +70,35 @@ module _ (codes : ℕ → Code) (whole : Guard) (ceilings : WithinCeilings codes
     pub stops : Stops k rest
 
   -- the level L reads the text at place p as the guard g, up to the rest
-  pub record Back (L : ℕ → Level) (d k m p : ℕ) (w : List ℕ) (u : List Flag) (text rest : List ℕ) (g : Guard) : Type 0 where
+  pub record Back (L : ℕ → Level) (d k m p : ℕ) (w : List ℕ) (u : List Flag) (text rest : List ℕ) (sees : After) (g : Guard) : Type 0 where
     pub flags : List Flag
     pub count : ℕ
     pub place : ℕ
+    pub flagsAre : flags ≡ sees p u
+    pub placeIs : place ≡ p + length text
     pub there : from place ≡ rest
     pub matches : Met (met w g) flags
     pub reads : Reads L d k u m (tokensFrom p 0 (text ++ rest)) (numbered g) flags count (tokensFrom place 0 rest)
 
   -- the same of a chain that the sign s may go on with
-  pub record BackChain (s : Sign) (next : Level) (d k m p : ℕ) (w : List ℕ) (u : List Flag) (text rest : List ℕ) (g : Guard) : Type 0 where
+  pub record BackChain (s : Sign) (next : Level) (d k m p : ℕ) (w : List ℕ) (u : List Flag) (text rest : List ℕ) (sees : After) (g : Guard) : Type 0 where
     pub flags : List Flag
     pub count : ℕ
     pub place : ℕ
+    pub flagsAre : flags ≡ sees p u
+    pub placeIs : place ≡ p + length text
     pub there : from place ≡ rest
     pub matches : Met (met w g) flags
     pub chain : Chain s next d k u m (tokensFrom p 0 (text ++ rest)) (numbered g) flags count (tokensFrom place 0 rest)
 
   -- wherever it may be read
-  abbrev pub ReadsAs : (ℕ → ℕ → Level) → ℕ → ℕ → List ℕ → Guard → Type 0
-  ReadsAs L k n text g =
-      (d m p : ℕ) (w : List ℕ) (u : List Flag) (rest : List ℕ) → Ready n k g d m p w u text rest → Back (L d) d k m p w u text rest g
+  abbrev pub ReadsAs : (ℕ → ℕ → Level) → ℕ → ℕ → List ℕ → After → Guard → Type 0
+  ReadsAs L k n text sees g =
+      (d m p : ℕ) (w : List ℕ) (u : List Flag) (rest : List ℕ) → Ready n k g d m p w u text rest → Back (L d) d k m p w u text rest sees g
 
-  abbrev pub ChainsAs : Sign → (ℕ → Level) → ℕ → ℕ → List ℕ → Guard → Type 0
-  ChainsAs s next k n text g =
-      (d m p : ℕ) (w : List ℕ) (u : List Flag) (rest : List ℕ) → Ready n k g d m p w u text rest → BackChain s (next d) d k m p w u text rest g
+  abbrev pub ChainsAs : Sign → (ℕ → Level) → ℕ → ℕ → List ℕ → After → Guard → Type 0
+  ChainsAs s next k n text sees g =
+      (d m p : ℕ) (w : List ℕ) (u : List Flag) (rest : List ℕ) → Ready n k g d m p w u text rest → BackChain s (next d) d k m p w u text rest sees g
 
   -- a level that stops at more signs
   looser : {n k j : ℕ} {g : Guard} {d m p : ℕ} {w : List ℕ} {u : List Flag} {text rest : List ℕ} → k ≤ j → Ready n j g d m p w u text rest → Ready n k g d m p w u text rest
@@ -98,32 +114,36 @@ module _ (codes : ℕ → Code) (whole : Guard) (ceilings : WithinCeilings codes
 
   module _ (s : Sign) (next : ℕ → Level) (k : ℕ) (tight : binding s ≡ k + 1) where
     -- the first operand of a chain
-    pub chain-start : {n : ℕ} {text : List ℕ} {g : Guard} → ReadsAs (λ d. plain (next d)) k n text g → ChainsAs s next k n text g
+    pub chain-start : {n : ℕ} {text : List ℕ} {sees : After} {g : Guard} → ReadsAs (λ d. plain (next d)) k n text sees g → ChainsAs s next k n text sees g
     chain-start r d m p w u rest a =
         let x = r d m p w u rest a in
-        record { flags = x .flags; count = x .count; place = x .place; there = x .there; matches = x .matches; chain = chain-first s (next d) d k _ _ _ (x .reads) }
+        record { flags = x .flags; count = x .count; place = x .place; flagsAre = x .flagsAre; placeIs = x .placeIs; there = x .there; matches = x .matches; chain = chain-first s (next d) d k _ _ _ (x .reads) }
 
     -- a chain that does not go on
-    pub chain-end : {n : ℕ} {text : List ℕ} {g : Guard} → ChainsAs s next k n text g → ReadsAs (λ d. plain (leftLevel s (next d))) (k + 1) n text g
+    pub chain-end : {n : ℕ} {text : List ℕ} {sees : After} {g : Guard} → ChainsAs s next k n text sees g → ReadsAs (λ d. plain (leftLevel s (next d))) (k + 1) n text sees g
     chain-end c d m p w u rest a =
         let x = c d m p w u rest (looser (omega arith) a) in
         record {
           flags = x .flags;
           count = x .count;
           place = x .place;
+          flagsAre = x .flagsAre;
+          placeIs = x .placeIs;
           there = x .there;
           matches = x .matches;
           reads = chain-done s (next d) d k _ _ _ (x .chain) (a .stops (x .place) s (omega arith)) tight;
         }
 
     -- a single operand of a level that groups to the right
-    pub right-end : {n : ℕ} {text : List ℕ} {g : Guard} → ReadsAs (λ d. plain (next d)) k n text g → ReadsAs (λ d. toTheRight s (next d)) (k + 1) n text g
+    pub right-end : {n : ℕ} {text : List ℕ} {sees : After} {g : Guard} → ReadsAs (λ d. plain (next d)) k n text sees g → ReadsAs (λ d. toTheRight s (next d)) (k + 1) n text sees g
     right-end r d m p w u rest a =
         let x = r d m p w u rest (looser (omega arith) a) in
         record {
           flags = x .flags;
           count = x .count;
           place = x .place;
+          flagsAre = x .flagsAre;
+          placeIs = x .placeIs;
           there = x .there;
           matches = x .matches;
           reads = right-one s (next d) d k _ _ _ (x .reads) (a .stops (x .place) s (omega arith)) tight;
@@ -162,16 +182,18 @@ module _ (codes : ℕ → Code) (whole : Guard) (ceilings : WithinCeilings codes
       fewer i e = omega (arith, a .signs, connectives-joined s g h, renamed-connectives (placeIn (order whole)) g)
 
     -- one operand more joins a chain
-    pub chain-join : {n₁ n₂ : ℕ} {t₁ t₂ : List ℕ} {g h : Guard} → ChainsAs s next k n₁ t₁ g → ReadsAs (λ d. plain (next d)) k n₂ t₂ h →
-        ChainsAs s next k (max n₁ n₂) (t₁ ++ (signByte s ∷ t₂)) (joined s g h)
+    pub chain-join : {n₁ n₂ : ℕ} {t₁ t₂ : List ℕ} {a₁ a₂ : After} {g h : Guard} → ChainsAs s next k n₁ t₁ a₁ g → ReadsAs (λ d. plain (next d)) k n₂ t₂ a₂ h →
+        ChainsAs s next k (max n₁ n₂) (t₁ ++ (signByte s ∷ t₂)) (afterBoth (length t₁) a₁ a₂) (joined s g h)
     unfolding met renamed
-    chain-join {n₁} {n₂} {t₁} {t₂} {g} {h} c r d m p w u rest a =
+    chain-join {n₁} {n₂} {t₁} {t₂} {a₁} {a₂} {g} {h} c r d m p w u rest a =
         let x = c d m p w u (signByte s ∷ (t₂ ++ rest)) (ready-left n₁ n₂ k d m p w u t₁ t₂ rest a) in
         let y = r d (x .count + 1) (suc (x .place)) (met w g) (x .flags) rest (ready-right n₁ n₂ k d m p w u t₁ t₂ rest a (x .count) (x .place) (x .flags) (x .chain .signs) (x .there) (x .matches)) in
         record {
           flags = y .flags;
           count = y .count;
           place = y .place;
+          flagsAre = both-seen (x .flags) (y .flags) u p (x .place) (length t₁) a₁ a₂ (x .flagsAre) (x .placeIs) (y .flagsAre);
+          placeIs = omega (arith, x .placeIs, y .placeIs, length-append t₁ (signByte s ∷ t₂));
           there = y .there;
           matches = y .matches;
           chain =
@@ -181,16 +203,18 @@ module _ (codes : ℕ → Code) (whole : Guard) (ceilings : WithinCeilings codes
         }
 
     -- an operand and all that follows, of a level that groups to the right
-    pub right-join : {n₁ n₂ : ℕ} {t₁ t₂ : List ℕ} {g h : Guard} → ReadsAs (λ d. plain (next d)) k n₁ t₁ g → ReadsAs (λ d. toTheRight s (next d)) (k + 1) n₂ t₂ h →
-        ReadsAs (λ d. toTheRight s (next d)) (k + 1) (max n₁ n₂) (t₁ ++ (signByte s ∷ t₂)) (joined s g h)
+    pub right-join : {n₁ n₂ : ℕ} {t₁ t₂ : List ℕ} {a₁ a₂ : After} {g h : Guard} → ReadsAs (λ d. plain (next d)) k n₁ t₁ a₁ g → ReadsAs (λ d. toTheRight s (next d)) (k + 1) n₂ t₂ a₂ h →
+        ReadsAs (λ d. toTheRight s (next d)) (k + 1) (max n₁ n₂) (t₁ ++ (signByte s ∷ t₂)) (afterBoth (length t₁) a₁ a₂) (joined s g h)
     unfolding met renamed
-    right-join {n₁} {n₂} {t₁} {t₂} {g} {h} c r d m p w u rest a =
+    right-join {n₁} {n₂} {t₁} {t₂} {a₁} {a₂} {g} {h} c r d m p w u rest a =
         let x = c d m p w u (signByte s ∷ (t₂ ++ rest)) (ready-left n₁ n₂ (k + 1) d m p w u t₁ t₂ rest a) in
         let y = r d (x .count + 1) (suc (x .place)) (met w g) (x .flags) rest (ready-right n₁ n₂ (k + 1) d m p w u t₁ t₂ rest a (x .count) (x .place) (x .flags) (x .reads .signs) (x .there) (x .matches)) in
         record {
           flags = y .flags;
           count = y .count;
           place = y .place;
+          flagsAre = both-seen (x .flags) (y .flags) u p (x .place) (length t₁) a₁ a₂ (x .flagsAre) (x .placeIs) (y .flagsAre);
+          placeIs = omega (arith, x .placeIs, y .placeIs, length-append t₁ (signByte s ∷ t₂));
           there = y .there;
           matches = y .matches;
           reads =
@@ -200,7 +224,7 @@ module _ (codes : ℕ → Code) (whole : Guard) (ceilings : WithinCeilings codes
         }
 
     -- a level that groups to the right has all the room that there can be
-    pub right-whole : {n j : ℕ} {text : List ℕ} {g : Guard} → ReadsAs (λ d. toTheRight s (next d)) j n text g → ReadsAs (λ d. plain (rightLevel s (next d))) j n text g
+    pub right-whole : {n j : ℕ} {text : List ℕ} {sees : After} {g : Guard} → ReadsAs (λ d. toTheRight s (next d)) j n text sees g → ReadsAs (λ d. plain (rightLevel s (next d))) j n text sees g
     unfolding rightLevel
     right-whole r d m p w u rest a =
         let x = r d m p w u rest a in
@@ -208,6 +232,8 @@ module _ (codes : ℕ → Code) (whole : Guard) (ceilings : WithinCeilings codes
           flags = x .flags;
           count = x .count;
           place = x .place;
+          flagsAre = x .flagsAre;
+          placeIs = x .placeIs;
           there = x .there;
           matches = x .matches;
           reads = record {

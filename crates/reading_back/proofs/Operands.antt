@@ -4,7 +4,7 @@ use native.Mathlib.Omega.{arith}
 use mathlib.Core.Path.{_≡_, refl, sym, ap, _∙_}
 use mathlib.Core.Bool.{Bool}
 use mathlib.Core.List.{List, [], _∷_, _++_, append-assoc}
-use lib.ListN.{length, take, drop}
+use lib.ListN.{length, take, drop, length-append}
 use lib.Seq.{take-at}
 use borrow.Author.Tests.{le-leb}
 use Rattle.notation.specs.Ceilings.{bracketCeiling, flagCeiling, connectiveCeiling}
@@ -17,7 +17,7 @@ use Rattle.notation.proofs.Operands.{no-tighter}
 use Rattle.reading_back.specs.Written.{Stands, met, order, placeIn, renamed, written, Placed, WithinCeilings}
 use Rattle.reading_back.proofs.Codes.{matches-length, matches-seen, number-is, begins-length}
 use Rattle.reading_back.proofs.Cutting.{code-cut, hash-cut, bang-cut, opening-cut, closing-cut, closing-parted, closing-stops}
-use Rattle.reading_back.proofs.Levels.{Met, numbered, from, Ready, Back, ReadsAs, after-part, after-byte}
+use Rattle.reading_back.proofs.Levels.{After, Met, numbered, ReadsAs, after-part, after-byte}
 
 -- ---- one step of the walk and of the grammar
 code-walked : (d : ℕ) (u : List Flag) (m p : ℕ) (c : Code) (ts : Tokens) → length (seen p c u) ≤ flagCeiling →
@@ -51,11 +51,11 @@ bracket-parsed d u p q ts g v us h e =
 
 module _ (codes : ℕ → Code) (whole : Guard) (ceilings : WithinCeilings codes whole) where
   -- what operands read
-  abbrev pub OperandAs : ℕ → List ℕ → Guard → Type 0
-  OperandAs n text g = ReadsAs codes whole ceilings (λ d. plain (operandsAt d)) 0 n text g
+  abbrev pub OperandAs : ℕ → List ℕ → After → Guard → Type 0
+  OperandAs n text sees g = ReadsAs codes whole ceilings (λ d. plain (operandsAt d)) 0 n text sees g
 
   -- a code
-  pub flag-back : (i : ℕ) → Stands i whole → OperandAs 0 (codes i) (flag i)
+  pub flag-back : (i : ℕ) → Stands i whole → OperandAs 0 (codes i) (λ p u. seen p (codes i) u) (flag i)
   unfolding renamed connectives
   flag-back i st d m p w u rest a =
       let all = order whole in
@@ -72,6 +72,8 @@ module _ (codes : ℕ → Code) (whole : Guard) (ceilings : WithinCeilings codes
         flags = seen p (codes i) u;
         count = m;
         place = p + length (codes i);
+        flagsAre = refl;
+        placeIs = refl;
         there = after-part (written codes 0 whole) (codes i) rest p (a .here);
         matches = v;
         reads = record {
@@ -83,12 +85,14 @@ module _ (codes : ℕ → Code) (whole : Guard) (ceilings : WithinCeilings codes
       }
 
   -- `#0` and `#1`
-  pub truth-back : (b : Bool) → OperandAs 0 (35 ∷ choose b 49 48 ∷ []) (truth b)
+  pub truth-back : (b : Bool) → OperandAs 0 (35 ∷ choose b 49 48 ∷ []) (λ p u. u) (truth b)
   unfolding renamed connectives met operandOf walk
   truth-back b d m p w u rest a = record {
     flags = u;
     count = m;
     place = suc (suc p);
+    flagsAre = refl;
+    placeIs = omega arith;
     there = after-byte (written codes 0 whole) (choose b 49 48) rest (suc p) (after-byte (written codes 0 whole) 35 (choose b 49 48 ∷ rest) p (a .here));
     matches = a .matches;
     reads = record {
@@ -100,9 +104,9 @@ module _ (codes : ℕ → Code) (whole : Guard) (ceilings : WithinCeilings codes
   }
 
   -- `!` and an operand
-  pub negated-back : {n : ℕ} {text : List ℕ} {g : Guard} → OperandAs n text g → OperandAs n (33 ∷ text) (negated g)
+  pub negated-back : {n : ℕ} {text : List ℕ} {sees : After} {g : Guard} → OperandAs n text sees g → OperandAs n (33 ∷ text) (λ p u. sees (suc p) u) (negated g)
   unfolding renamed connectives met walk
-  negated-back {n} {text} {g} r d m p w u rest a =
+  negated-back {n} {text} {sees} {g} r d m p w u rest a =
       let x = r d m (suc p) w u rest (record {
         here = after-byte (written codes 0 whole) 33 (text ++ rest) p (a .here);
         brackets = a .brackets;
@@ -116,6 +120,8 @@ module _ (codes : ℕ → Code) (whole : Guard) (ceilings : WithinCeilings codes
         flags = x .flags;
         count = x .count;
         place = x .place;
+        flagsAre = x .flagsAre;
+        placeIs = omega (arith, x .placeIs);
         there = x .there;
         matches = x .matches;
         reads = record {
@@ -127,9 +133,9 @@ module _ (codes : ℕ → Code) (whole : Guard) (ceilings : WithinCeilings codes
       }
 
   -- a guard in brackets
-  pub bracket-back : {n : ℕ} {text : List ℕ} {g : Guard} → ReadsAs codes whole ceilings (λ d. plain (sameOf (operandsAt d))) 4 n text g →
-      OperandAs (1 + n) (40 ∷ (text ++ (41 ∷ []))) g
-  bracket-back {n} {text} {g} r d m p w u rest a =
+  pub bracket-back : {n : ℕ} {text : List ℕ} {sees : After} {g : Guard} → ReadsAs codes whole ceilings (λ d. plain (sameOf (operandsAt d))) 4 n text sees g →
+      OperandAs (1 + n) (40 ∷ (text ++ (41 ∷ []))) (λ p u. sees (suc p) u) g
+  bracket-back {n} {text} {sees} {g} r d m p w u rest a =
       let regrouped : (text ++ (41 ∷ [])) ++ rest ≡ text ++ (41 ∷ rest) = append-assoc text (41 ∷ []) rest in
       let x = r (suc d) m (suc p) w u (41 ∷ rest) (record {
         here = after-byte (written codes 0 whole) 40 ((text ++ (41 ∷ [])) ++ rest) p (a .here) ∙ regrouped;
@@ -147,6 +153,8 @@ module _ (codes : ℕ → Code) (whole : Guard) (ceilings : WithinCeilings codes
         flags = x .flags;
         count = x .count;
         place = suc (x .place);
+        flagsAre = x .flagsAre;
+        placeIs = omega (arith, x .placeIs, length-append text (41 ∷ []));
         there = after-byte (written codes 0 whole) 41 rest (x .place) (x .there);
         matches = x .matches;
         reads = record {

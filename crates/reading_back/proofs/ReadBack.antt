@@ -16,7 +16,7 @@ use Rattle.reading_back.specs.Written.{met, order, renumbered, written, 
 use Rattle.reading_back.proofs.Codes.{nothing, matches-names, matches-each}
 use Rattle.reading_back.proofs.Cutting.{end-parted, end-stops}
 use Rattle.reading_back.proofs.Levels.{Ready, Back}
-use Rattle.reading_back.proofs.Trees.{levelsAt, reads-back}
+use Rattle.reading_back.proofs.Trees.{levelsAt, seenAfter, reads-back}
 
 -- where the walk accepts and the loosest level finds a guard, that guard is read
 read-found : (text : List ℕ) (g : Guard) (u : List Flag) (m : ℕ) (ts : Tokens) → length text ≤ textCeiling →
@@ -43,7 +43,7 @@ module _ (codes : ℕ → Code) (g : Guard) (ceilings : WithinCeilings codes g) 
     stops = end-stops 4;
   }
 
-  whole : Back codes g ceilings (levelsAt 0 0) 0 4 0 0 [] [] (written codes 0 g) [] g
+  whole : Back codes g ceilings (levelsAt 0 0) 0 4 0 0 [] [] (written codes 0 g) [] (seenAfter codes 0 g) g
   whole = reads-back codes g ceilings g (λ i e. e) .level 0 (omega arith) 0 0 0 [] [] [] ready
 
   -- reading what is written of a guard gives that guard
