@@ -91,7 +91,7 @@ module _ (codes : ℕ → Code) (P : ℕ → Type 0) (Q : Flag → Type 0) (apar
   matches-each text is (one {j} {w} {f} {u} p z e m) = (is f z, matches-each text is m)
 
   -- a code is known where its flag has been met
-  known-is : {w : List ℕ} {u : List Flag} (i : ℕ) → P i → Matches w u → known (codes i) u ≡ among i w
+  pub known-is : {w : List ℕ} {u : List Flag} (i : ℕ) → P i → Matches w u → known (codes i) u ≡ among i w
   unfolding known among
   known-is i p nothing = refl
   known-is i p (one {j} {w} {f} {u} q z e m) = rw (seen-is i j f p q e, known-is i p m)

@@ -1,4 +1,6 @@
 pub mod Codes
+pub mod Order
+pub mod First
 pub mod Cutting
 pub mod Levels
 pub mod Operands

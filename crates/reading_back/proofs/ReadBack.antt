@@ -12,10 +12,11 @@ use Rattle.notation.specs.Guard.{Guard}
 use Rattle.notation.specs.Grammar.{found, sameOf, treeOf, tree}
 use Rattle.notation.specs.Levels.{operandsAt}
 use Rattle.notation.specs.Reading.{reading, judged, guard}
-use Rattle.reading_back.specs.Written.{met, order, renumbered, written, nesting, Stands, Placed, WithinCeilings, ReadBack}
-use Rattle.reading_back.proofs.Codes.{nothing, matches-names, matches-each}
+use Rattle.reading_back.specs.Written.{met, order, renumbered, written, nesting, Stands, flagsOf, Placed, EachPlaced, WithinCeilings}
+use Rattle.reading_back.proofs.Codes.{nothing, matches-each}
 use Rattle.reading_back.proofs.Cutting.{end-parted, end-stops}
 use Rattle.reading_back.proofs.Levels.{Ready, Back}
+use Rattle.reading_back.proofs.First.{all-seen}
 use Rattle.reading_back.proofs.Trees.{levelsAt, seenAfter, reads-back}
 
 -- where the walk accepts and the loosest level finds a guard, that guard is read
@@ -46,19 +47,21 @@ module _ (codes : ℕ → Code) (g : Guard) (ceilings : WithinCeilings codes g) 
   whole : Back codes g ceilings (levelsAt 0 0) 0 4 0 0 [] [] (written codes 0 g) [] (seenAfter codes 0 g) g
   whole = reads-back codes g ceilings g (λ i e. e) .level 0 (omega arith) 0 0 0 [] [] [] ready
 
-  -- reading what is written of a guard gives that guard
-  pub read-back : ReadBack codes g
-  unfolding order renumbered whole
+  -- the flags that are seen
+  flags-are : whole .flags ≡ flagsOf codes g
+  flags-are = whole .flagsAre ∙ all-seen codes g (ceilings .apart)
+
+  -- reading what is written of a guard gives that guard, its flags numbered by first appearance
+  pub read-back : reading (written codes 0 g) ≡ guard (renumbered g) (flagsOf codes g)
+  unfolding renumbered
   read-back =
       let nil : written codes 0 g ++ [] ≡ written codes 0 g = append-nil (written codes 0 g) in
-      let P : ℕ → Type 0 = λ i. Stands i g in
-      let Q : Flag → Type 0 = Placed (written codes 0 g) in
-      record {
-        flags = whole .flags;
-        read =
-            read-found (written codes 0 g) (renumbered g) (whole .flags) (whole .count) (tokensFrom (whole .place) 0 []) (ceilings .text)
-            (rw nil at (whole .reads .walked ∙ end-walked (whole .flags) (whole .count) (whole .place)))
-            (rw nil at (whole .reads .parsed connectiveCeiling (omega arith)));
-        named = matches-names codes P Q (ceilings .apart) (whole .matches);
-        placed = matches-each codes P Q (ceilings .apart) (written codes 0 g) (λ f q. q) (whole .matches);
-      }
+      read-found (written codes 0 g) (renumbered g) (whole .flags) (whole .count) (tokensFrom (whole .place) 0 []) (ceilings .text)
+      (rw nil at (whole .reads .walked ∙ end-walked (whole .flags) (whole .count) (whole .place)))
+      (rw nil at (whole .reads .parsed connectiveCeiling (omega arith)))
+      ∙ ap (guard (renumbered g)) flags-are
+
+  -- each code stands in the text at the place of its flag
+  pub codes-placed : EachPlaced (written codes 0 g) (flagsOf codes g)
+  codes-placed =
+      rw flags-are at (matches-each codes (λ i. Stands i g) (Placed (written codes 0 g)) (ceilings .apart) (written codes 0 g) (λ f q. q) (whole .matches))

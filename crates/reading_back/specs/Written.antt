@@ -10,7 +10,6 @@ use Rattle.notation.specs.Ceilings.{textCeiling, codeCeiling, bracketCeiling, f
 use Rattle.notation.specs.Tokens.{Code, Sign, same, implies, or, and, choose, codeByte}
 use Rattle.notation.specs.Walk.{Flag}
 use Rattle.notation.specs.Guard.{Guard, flag, truth, negated, joined, connectives}
-use Rattle.notation.specs.Reading.{reading, guard}
 
 -- the signs `=`, `>`, `|` and `&` as bytes
 unfoldable pub signByte : Sign → ℕ
@@ -98,12 +97,25 @@ renamed f (joined s g h) = joined s (renamed f g) (renamed f h)
 unfoldable pub renumbered : Guard → Guard
 renumbered g = renamed (placeIn (order g)) g
 
+-- how many bytes of a guard's text stand before flag i first does
+unfoldable pub before : (ℕ → Code) → ℕ → Guard → ℕ → ℕ
+before codes l (flag j) i = 0
+before codes l (truth b) i = 0
+before codes l (negated g) i = 1 + before codes 4 g i
+before codes l (joined s g h) i =
+    choose (ltb (levelOf s) l) 1 0
+    + choose (among i (order g)) (before codes (leftOf s) g i) (length (written codes (leftOf s) g) + 1 + before codes (rightOf s) h i)
+
+-- the flags of a guard by first appearance, each with its code and the place where that first stands in the text
+unfoldable pub flagsOf : (ℕ → Code) → Guard → List Flag
+flagsOf codes g = map (λ i. record { place = before codes 0 g i; name = codes i }) (order g)
+
 -- every byte is a code byte
 unfoldable pub codeBytes : Code → Bool
 codeBytes [] = true
 codeBytes (b ∷ c) = choose (codeByte b) (codeBytes c) false
 
--- a code: 1 to 12 code bytes
+-- a code: one code byte or more, up to the ceiling
 pub record IsCode (c : Code) : Type 0 where
   pub some : 1 ≤ length c
   pub short : length c ≤ codeCeiling
@@ -126,10 +138,3 @@ Placed text f = take (length (f .name)) (drop (f .place) text) ≡ f .name
 abbrev pub EachPlaced : List ℕ → List Flag → Type 0
 EachPlaced text [] = Unit {0}
 EachPlaced text (f ∷ u) = Placed text f × EachPlaced text u
-
--- reading what is written of g gives g, its flags numbered by first appearance, and their codes in that order
-pub record ReadBack (codes : ℕ → Code) (g : Guard) : Type 0 where
-  pub flags : List Flag
-  pub read : reading (written codes 0 g) ≡ guard (renumbered g) flags
-  pub named : map (λ (f : Flag). f .name) flags ≡ map codes (order g)
-  pub placed : EachPlaced (written codes 0 g) flags
