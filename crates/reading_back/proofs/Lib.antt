@@ -6,3 +6,6 @@ pub mod Levels
 pub mod Operands
 pub mod Trees
 pub mod ReadBack
+pub mod Served
+pub mod InOrder
+pub mod Examples

@@ -26,7 +26,7 @@ among-more i j (k ∷ w) h =
     (λ (e : eqb i k ≡ false). let t : among i w ≡ true = rw e at h in rw (e, among-more i j w t))
     (either (eqb i k))
 
-among-last : (i j : ℕ) (w : List ℕ) → among i (w ++ (j ∷ [])) ≡ true → (among i w ≡ true) ⊎ (i ≡ j)
+pub among-last : (i j : ℕ) (w : List ℕ) → among i (w ++ (j ∷ [])) ≡ true → (among i w ≡ true) ⊎ (i ≡ j)
 unfolding among
 among-last i j [] h =
     ⊎-elim

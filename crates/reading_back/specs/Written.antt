@@ -1,5 +1,5 @@
 -- A guard as text: what is written of any tree, with brackets only where the levels need them.
-use Prim.Native.Nat.{ℕ, suc, _+_, _≤_, max}
+use Prim.Native.Nat.{ℕ, zero, suc, _+_, _≤_, max}
 use mathlib.Core.Path.{_≡_}
 use mathlib.Core.Bool.{Bool, true, false}
 use mathlib.Core.List.{List, [], _∷_, _++_, map}
@@ -96,6 +96,11 @@ renamed f (joined s g h) = joined s (renamed f g) (renamed f h)
 -- a guard with its flags numbered by first appearance
 unfoldable pub renumbered : Guard → Guard
 renumbered g = renamed (placeIn (order g)) g
+
+-- 1 to n
+unfoldable pub upTo : ℕ → List ℕ
+upTo zero = []
+upTo (suc n) = upTo n ++ (suc n ∷ [])
 
 -- how many bytes of a guard's text stand before flag i first does
 unfoldable pub before : (ℕ → Code) → ℕ → Guard → ℕ → ℕ

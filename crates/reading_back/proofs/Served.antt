@@ -1,0 +1,49 @@
+-- What the services read and name answer on what is written of a guard.
+use Prim.Native.Nat.{ℕ, zero, suc, _+_, _*_, _≤_, _<_}
+use native.Mathlib.Nat.{not-suc-le-zero, le-of-suc-le-suc}
+use native.Mathlib.Omega.{arith}
+use mathlib.Core.Path.{_≡_, refl, sym, ap, _∙_}
+use mathlib.Core.List.{List, [], _∷_, _++_, map}
+use lib.ListN.{length, getD, take, drop, length-map, length-take, length-drop}
+use lib.Dec.{leb}
+use borrow.Author.Tests.{le-leb}
+use Rattle.notation.specs.Tokens.{Code}
+use Rattle.notation.specs.Walk.{Flag}
+use Rattle.notation.specs.Guard.{Guard, connectives}
+use Rattle.notation.specs.Triplets.{literal, triplets, numbers}
+use Rattle.notation.specs.Reading.{Reading, reading, guard}
+use Rattle.notation.specs.Service.{ReadSays, readAnswer, roomAfter, guardWith, nameIn, nameAnswer, partOf}
+use Rattle.notation.specs.declared.parse.Parsed.{Parsed}
+use Rattle.notation.specs.declared.name.Named.the-variants as named
+use Rattle.reading_back.specs.Written.{order, placeIn, renumbered, flagsOf, written, Placed, EachPlaced, WithinCeilings}
+use Rattle.reading_back.proofs.Levels.{renamed-connectives}
+use Rattle.reading_back.proofs.ReadBack.{read-back, codes-placed}
+
+renumbered-connectives : (g : Guard) → connectives (renumbered g) ≡ connectives g
+unfolding renumbered
+renumbered-connectives g = renamed-connectives (placeIn (order g)) g
+
+flags-length : (codes : ℕ → Code) (g : Guard) → length (flagsOf codes g) ≡ length (order g)
+unfolding flagsOf
+flags-length codes g = length-map (order g) _
+
+-- the answer of read, and the room afterwards, where there is room for the triplets
+answer-of : (h : Guard) (u : List Flag) (n c : ℕ) (room : ℕ) → length u ≡ n → connectives h ≡ c → 3 * c ≤ room → readAnswer (guard h u) room ≡ guardWith n c (literal 0 h)
+unfolding readAnswer
+answer-of h u n c room e f l = rw (e, f, le-leb (3 * c) room l)
+
+room-of : (h : Guard) (u : List Flag) (c : ℕ) (room : List ℕ) → connectives h ≡ c → 3 * c ≤ length room → roomAfter (guard h u) room ≡ numbers (triplets 0 h) ++ drop (3 * c) room
+unfolding roomAfter
+room-of h u c room f l = rw (f, le-leb (3 * c) (length room) l)
+
+module _ (codes : ℕ → Code) (g : Guard) (ceilings : WithinCeilings codes g) where
+  -- read answers the flags, the connectives and the root, and writes the triplets
+  pub read-answers : (room left : List ℕ) (r : Parsed) → ReadSays (written codes 0 g) room r left → 3 * connectives g ≤ length room →
+      (r ≡ guardWith (length (order g)) (connectives g) (literal 0 (renumbered g)))
+      × (left ≡ numbers (triplets 0 (renumbered g)) ++ drop (3 * connectives g) room)
+  read-answers room left r says fits = (
+    says .answer ∙ ap (λ (x : Reading). readAnswer x (length room)) (read-back codes g ceilings)
+        ∙ answer-of (renumbered g) (flagsOf codes g) (length (order g)) (connectives g) (length room) (flags-length codes g) (renumbered-connectives g) fits,
+    says .left ∙ ap (λ (x : Reading). roomAfter x room) (read-back codes g ceilings)
+        ∙ room-of (renumbered g) (flagsOf codes g) (connectives g) room (renumbered-connectives g) fits,
+  )
