@@ -1,14 +1,14 @@
 -- The codes that the walk has seen are those of the flags met, in the same order: so a flag's number is its place among them.
-use Prim.Native.Nat.{ℕ, suc, _+_, _≤_}
+use Prim.Native.Nat.{ℕ, suc, _≤_}
 use native.Mathlib.Omega.{arith}
 use mathlib.Core.Path.{_≡_, refl, sym, ap, _∙_}
 use mathlib.Core.Logic.{⊎-elim}
-use mathlib.Core.Bool.{Bool, true, false, false≢true}
-use mathlib.Core.List.{List, [], _∷_, _++_, map, append-assoc}
+use mathlib.Core.Bool.{true, false, false≢true}
+use mathlib.Core.List.{List, [], _∷_, _++_, append-assoc}
 use lib.ListN.{length, length-append}
 use lib.Dec.{eqb}
 use borrow.Author.Tests.{eq-eqb, ne-eqb}
-use Rattle.notation.specs.Tokens.{Code, choose}
+use Rattle.notation.specs.Tokens.{Code}
 use Rattle.notation.specs.Walk.{Flag, sameCode, known, seen}
 use Rattle.notation.specs.Guard.{Guard, flag, truth, negated, joined}
 use Rattle.notation.specs.Grammar.{number}
@@ -80,10 +80,6 @@ module _ (codes : ℕ → Code) (P : ℕ → Type 0) (Q : Flag → Type 0) (apar
   pub matches-length : {w : List ℕ} {u : List Flag} → Matches w u → length u ≡ length w
   matches-length nothing = refl
   matches-length (one p z e m) = ap suc (matches-length m)
-
-  pub matches-names : {w : List ℕ} {u : List Flag} → Matches w u → map (λ (f : Flag). f .name) u ≡ map codes w
-  matches-names nothing = refl
-  matches-names (one {j} {w} {f} {u} p z e m) = rw (e, matches-names m)
 
   -- what is seen of each
   pub matches-each : (text : List ℕ) → ((f : Flag) → Q f → Placed text f) → {w : List ℕ} {u : List Flag} → Matches w u → EachPlaced text u

@@ -1,5 +1,5 @@
 -- How what is written is cut into tokens: one law for each thing that is written, before any rest that no code goes on with.
-use Prim.Native.Nat.{ℕ, zero, suc, _+_, _≤_, _<_}
+use Prim.Native.Nat.{ℕ, suc, _+_, _≤_, _<_}
 use native.Mathlib.Nat.{add-zero}
 use native.Mathlib.Omega.{arith}
 use mathlib.Core.Path.{_≡_, refl, sym, ap, _∙_}
@@ -10,7 +10,7 @@ use lib.ListN.{length}
 use lib.Dec.{eqb}
 use borrow.Author.Tests.{le-leb, ne-eqb}
 use Rattle.notation.specs.Ceilings.{codeCeiling}
-use Rattle.notation.specs.Tokens.{Code, Sign, same, implies, or, and, Token, Tokens, code, hash, bang, sign, opening, closing, end, at, choose, among, codeByte, codeRun, coded, hashed, marked, tokenOf, further, tokensFrom}
+use Rattle.notation.specs.Tokens.{Sign, same, implies, or, and, Token, Tokens, code, hash, bang, sign, opening, closing, at, choose, among, codeByte, codeRun, coded, hashed, marked, tokenOf, further, tokensFrom}
 use Rattle.notation.specs.Grammar.{isSign, signNext, sameSign, past}
 use Rattle.notation.specs.Levels.{binding}
 use Rattle.notation.proofs.Cases.{either}

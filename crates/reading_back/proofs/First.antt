@@ -1,20 +1,19 @@
 -- The flags seen after the text of a guard are those met, each at the place where it first stands.
 use Prim.Native.Nat.{ℕ, suc, _+_}
 use native.Mathlib.Omega.{arith}
-use mathlib.Core.Path.{_≡_, refl, sym, ap, _∙_}
+use mathlib.Core.Path.{_≡_, refl}
 use mathlib.Core.Logic.{_⊎_, inl, inr, ⊎-elim}
 use mathlib.Core.Bool.{Bool, true, false}
-use mathlib.Core.List.{List, [], _∷_, _++_, map, map-append}
+use mathlib.Core.List.{List, [], map, map-append}
 use lib.ListN.{length}
 use lib.Dec.{ltb}
 use Rattle.notation.specs.Tokens.{Code, choose}
-use Rattle.notation.specs.Walk.{Flag, known, seen}
+use Rattle.notation.specs.Walk.{Flag, seen}
 use Rattle.notation.specs.Guard.{Guard, flag, truth, negated, joined}
 use Rattle.notation.proofs.Cases.{either, never}
 use Rattle.reading_back.specs.Written.{levelOf, leftOf, rightOf, written, Stands, among, met, order, before, flagsOf}
 use Rattle.reading_back.proofs.Codes.{Matches, nothing, known-is, matches-seen}
 use Rattle.reading_back.proofs.Order.{stays-met, stands-met, order-stands, stands-order}
-use Rattle.reading_back.proofs.Levels.{After, afterBoth}
 use Rattle.reading_back.proofs.Trees.{seenAfter}
 
 -- a bracket before a text moves it by one

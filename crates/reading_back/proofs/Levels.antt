@@ -1,14 +1,14 @@
 -- How the levels read what is written: a text that a level reads, wherever it stands, and the ways to make such texts of shorter ones.
-use Prim.Native.Nat.{ℕ, zero, suc, _+_, _-_, _≤_, _<_, max}
+use Prim.Native.Nat.{ℕ, suc, _+_, _≤_, _<_, max}
 use native.Mathlib.Nat.{le-max-left, le-max-right}
 use native.Mathlib.Numerals.{add-one}
 use native.Mathlib.Omega.{arith}
-use mathlib.Core.Path.{_≡_, refl, sym, ap, subst, _∙_}
+use mathlib.Core.Path.{_≡_, refl, sym, ap, _∙_}
 use mathlib.Core.List.{List, [], _∷_, _++_, append-assoc}
 use lib.ListN.{length, drop, length-append}
 use lib.Seq.{drop-drop, drop-at}
 use Rattle.notation.specs.Ceilings.{connectiveCeiling, bracketCeiling}
-use Rattle.notation.specs.Tokens.{Code, Sign, Tokens, tokensFrom}
+use Rattle.notation.specs.Tokens.{Code, Sign, tokensFrom}
 use Rattle.notation.specs.Walk.{Flag}
 use Rattle.notation.specs.Guard.{Guard, joined, connectives}
 use Rattle.notation.specs.Grammar.{Level, leftLevel, rightLevel, toTheRight}
@@ -69,8 +69,8 @@ module _ (codes : ℕ → Code) (whole : Guard) (ceilings : WithinCeilings codes
     pub parted : Parted rest
     pub stops : Stops k rest
 
-  -- the level L reads the text at place p as the guard g, up to the rest
-  pub record Back (L : ℕ → Level) (d k m p : ℕ) (w : List ℕ) (u : List Flag) (text rest : List ℕ) (sees : After) (g : Guard) : Type 0 where
+  -- the text of the guard g at place p ends before the rest, where R holds of the flags seen, the connectives counted and the place
+  pub record Back (R : List Flag → ℕ → ℕ → Type 0) (p : ℕ) (w : List ℕ) (u : List Flag) (text rest : List ℕ) (sees : After) (g : Guard) : Type 0 where
     pub flags : List Flag
     pub count : ℕ
     pub place : ℕ
@@ -78,27 +78,33 @@ module _ (codes : ℕ → Code) (whole : Guard) (ceilings : WithinCeilings codes
     pub placeIs : place ≡ p + length text
     pub there : from place ≡ rest
     pub matches : Met (met w g) flags
-    pub reads : Reads L d k u m (tokensFrom p 0 (text ++ rest)) (numbered g) flags count (tokensFrom place 0 rest)
+    pub holds : R flags count place
 
-  -- the same of a chain that the sign s may go on with
-  pub record BackChain (s : Sign) (next : Level) (d k m p : ℕ) (w : List ℕ) (u : List Flag) (text rest : List ℕ) (sees : After) (g : Guard) : Type 0 where
-    pub flags : List Flag
-    pub count : ℕ
-    pub place : ℕ
-    pub flagsAre : flags ≡ sees p u
-    pub placeIs : place ≡ p + length text
-    pub there : from place ≡ rest
-    pub matches : Met (met w g) flags
-    pub chain : Chain s next d k u m (tokensFrom p 0 (text ++ rest)) (numbered g) flags count (tokensFrom place 0 rest)
-
-  -- wherever it may be read
+  -- the level L reads the text as the guard g, wherever that may be read
   abbrev pub ReadsAs : (ℕ → ℕ → Level) → ℕ → ℕ → List ℕ → After → Guard → Type 0
   ReadsAs L k n text sees g =
-      (d m p : ℕ) (w : List ℕ) (u : List Flag) (rest : List ℕ) → Ready n k g d m p w u text rest → Back (L d) d k m p w u text rest sees g
+      (d m p : ℕ) (w : List ℕ) (u : List Flag) (rest : List ℕ) → Ready n k g d m p w u text rest →
+      Back (λ v i q. Reads (L d) d k u m (tokensFrom p 0 (text ++ rest)) (numbered g) v i (tokensFrom q 0 rest)) p w u text rest sees g
 
+  -- so as a chain that the sign s may go on with
   abbrev pub ChainsAs : Sign → (ℕ → Level) → ℕ → ℕ → List ℕ → After → Guard → Type 0
   ChainsAs s next k n text sees g =
-      (d m p : ℕ) (w : List ℕ) (u : List Flag) (rest : List ℕ) → Ready n k g d m p w u text rest → BackChain s (next d) d k m p w u text rest sees g
+      (d m p : ℕ) (w : List ℕ) (u : List Flag) (rest : List ℕ) → Ready n k g d m p w u text rest →
+      Back (λ v i q. Chain s (next d) d k u m (tokensFrom p 0 (text ++ rest)) (numbered g) v i (tokensFrom q 0 rest)) p w u text rest sees g
+
+  -- what follows from R holds as well
+  back-so : {R S : List Flag → ℕ → ℕ → Type 0} {p : ℕ} {w : List ℕ} {u : List Flag} {text rest : List ℕ} {sees : After} {g : Guard} →
+      ((v : List Flag) (i q : ℕ) → R v i q → S v i q) → Back R p w u text rest sees g → Back S p w u text rest sees g
+  back-so f x = record {
+    flags = x .flags;
+    count = x .count;
+    place = x .place;
+    flagsAre = x .flagsAre;
+    placeIs = x .placeIs;
+    there = x .there;
+    matches = x .matches;
+    holds = f (x .flags) (x .count) (x .place) (x .holds);
+  }
 
   -- a level that stops at more signs
   looser : {n k j : ℕ} {g : Guard} {d m p : ℕ} {w : List ℕ} {u : List Flag} {text rest : List ℕ} → k ≤ j → Ready n j g d m p w u text rest → Ready n k g d m p w u text rest
@@ -115,39 +121,33 @@ module _ (codes : ℕ → Code) (whole : Guard) (ceilings : WithinCeilings codes
   module _ (s : Sign) (next : ℕ → Level) (k : ℕ) (tight : binding s ≡ k + 1) where
     -- the first operand of a chain
     pub chain-start : {n : ℕ} {text : List ℕ} {sees : After} {g : Guard} → ReadsAs (λ d. plain (next d)) k n text sees g → ChainsAs s next k n text sees g
-    chain-start r d m p w u rest a =
-        let x = r d m p w u rest a in
-        record { flags = x .flags; count = x .count; place = x .place; flagsAre = x .flagsAre; placeIs = x .placeIs; there = x .there; matches = x .matches; chain = chain-first s (next d) d k _ _ _ (x .reads) }
+    chain-start r d m p w u rest a = back-so (λ v i q x. chain-first s (next d) d k _ _ _ x) (r d m p w u rest a)
 
     -- a chain that does not go on
-    pub chain-end : {n : ℕ} {text : List ℕ} {sees : After} {g : Guard} → ChainsAs s next k n text sees g → ReadsAs (λ d. plain (leftLevel s (next d))) (k + 1) n text sees g
+    pub chain-end : {n : ℕ} {text : List ℕ} {sees : After} {g : Guard} → ChainsAs s next k n text sees g →
+        ReadsAs (λ d. plain (leftLevel s (next d))) (k + 1) n text sees g
     chain-end c d m p w u rest a =
-        let x = c d m p w u rest (looser (omega arith) a) in
-        record {
-          flags = x .flags;
-          count = x .count;
-          place = x .place;
-          flagsAre = x .flagsAre;
-          placeIs = x .placeIs;
-          there = x .there;
-          matches = x .matches;
-          reads = chain-done s (next d) d k _ _ _ (x .chain) (a .stops (x .place) s (omega arith)) tight;
-        }
+        back-so (λ v i q x. chain-done s (next d) d k _ _ _ x (a .stops q s (omega arith)) tight) (c d m p w u rest (looser (omega arith) a))
 
     -- a single operand of a level that groups to the right
-    pub right-end : {n : ℕ} {text : List ℕ} {sees : After} {g : Guard} → ReadsAs (λ d. plain (next d)) k n text sees g → ReadsAs (λ d. toTheRight s (next d)) (k + 1) n text sees g
+    pub right-end : {n : ℕ} {text : List ℕ} {sees : After} {g : Guard} → ReadsAs (λ d. plain (next d)) k n text sees g →
+        ReadsAs (λ d. toTheRight s (next d)) (k + 1) n text sees g
     right-end r d m p w u rest a =
-        let x = r d m p w u rest (looser (omega arith) a) in
-        record {
-          flags = x .flags;
-          count = x .count;
-          place = x .place;
-          flagsAre = x .flagsAre;
-          placeIs = x .placeIs;
-          there = x .there;
-          matches = x .matches;
-          reads = right-one s (next d) d k _ _ _ (x .reads) (a .stops (x .place) s (omega arith)) tight;
-        }
+        back-so (λ v i q x. right-one s (next d) d k _ _ _ x (a .stops q s (omega arith)) tight) (r d m p w u rest (looser (omega arith) a))
+
+    -- a level that groups to the right has all the room that there can be
+    pub right-whole : {n j : ℕ} {text : List ℕ} {sees : After} {g : Guard} → ReadsAs (λ d. toTheRight s (next d)) j n text sees g →
+        ReadsAs (λ d. plain (rightLevel s (next d))) j n text sees g
+    unfolding rightLevel
+    right-whole r d m p w u rest a =
+        back-so
+        (λ v i q x. record {
+          parsed = λ _ _. x .parsed connectiveCeiling (omega arith);
+          walked = x .walked;
+          signs = x .signs;
+          stops = x .stops;
+        })
+        (r d m p w u rest a)
 
     module _ (n₁ n₂ j : ℕ) {g h : Guard} (d m p : ℕ) (w : List ℕ) (u : List Flag) (t₁ t₂ rest : List ℕ)
         (a : Ready (max n₁ n₂) j (joined s g h) d m p w u (t₁ ++ (signByte s ∷ t₂)) rest) where
@@ -181,65 +181,45 @@ module _ (codes : ℕ → Code) (whole : Guard) (ceilings : WithinCeilings codes
       fewer : (i : ℕ) → i ≡ m + connectives (numbered g) → i < connectiveCeiling
       fewer i e = omega (arith, a .signs, connectives-joined s g h, renamed-connectives (placeIn (order whole)) g)
 
+      -- what is known behind both
+      back-both : {R S T : List Flag → ℕ → ℕ → Type 0} {a₁ a₂ : After} → (x : Back R p w u t₁ (signByte s ∷ (t₂ ++ rest)) a₁ g) →
+          (y : Back S (suc (x .place)) (met w g) (x .flags) t₂ rest a₂ h) → T (y .flags) (y .count) (y .place) →
+          Back T p w u (t₁ ++ (signByte s ∷ t₂)) rest (afterBoth (length t₁) a₁ a₂) (joined s g h)
+      unfolding met
+      back-both {R} {S} {T} {a₁} {a₂} x y t = record {
+        flags = y .flags;
+        count = y .count;
+        place = y .place;
+        flagsAre = both-seen (x .flags) (y .flags) u p (x .place) (length t₁) a₁ a₂ (x .flagsAre) (x .placeIs) (y .flagsAre);
+        placeIs = omega (arith, x .placeIs, y .placeIs, length-append t₁ (signByte s ∷ t₂));
+        there = y .there;
+        matches = y .matches;
+        holds = t;
+      }
+
     -- one operand more joins a chain
     pub chain-join : {n₁ n₂ : ℕ} {t₁ t₂ : List ℕ} {a₁ a₂ : After} {g h : Guard} → ChainsAs s next k n₁ t₁ a₁ g → ReadsAs (λ d. plain (next d)) k n₂ t₂ a₂ h →
         ChainsAs s next k (max n₁ n₂) (t₁ ++ (signByte s ∷ t₂)) (afterBoth (length t₁) a₁ a₂) (joined s g h)
-    unfolding met renamed
+    unfolding renamed
     chain-join {n₁} {n₂} {t₁} {t₂} {a₁} {a₂} {g} {h} c r d m p w u rest a =
         let x = c d m p w u (signByte s ∷ (t₂ ++ rest)) (ready-left n₁ n₂ k d m p w u t₁ t₂ rest a) in
-        let y = r d (x .count + 1) (suc (x .place)) (met w g) (x .flags) rest (ready-right n₁ n₂ k d m p w u t₁ t₂ rest a (x .count) (x .place) (x .flags) (x .chain .signs) (x .there) (x .matches)) in
-        record {
-          flags = y .flags;
-          count = y .count;
-          place = y .place;
-          flagsAre = both-seen (x .flags) (y .flags) u p (x .place) (length t₁) a₁ a₂ (x .flagsAre) (x .placeIs) (y .flagsAre);
-          placeIs = omega (arith, x .placeIs, y .placeIs, length-append t₁ (signByte s ∷ t₂));
-          there = y .there;
-          matches = y .matches;
-          chain =
-              rw (append-assoc t₁ (signByte s ∷ t₂) rest)
-              (chain-more s (next d) d k _ _ _ (x .chain) (sign-next (x .place) s (t₂ ++ rest)) (fewer n₁ n₂ k d m p w u t₁ t₂ rest a (x .count) (x .chain .signs))
-              (rw (sign-past (x .place) s (t₂ ++ rest)) (y .reads)));
-        }
+        let there = ready-right n₁ n₂ k d m p w u t₁ t₂ rest a (x .count) (x .place) (x .flags) (x .holds .signs) (x .there) (x .matches) in
+        let y = r d (x .count + 1) (suc (x .place)) (met w g) (x .flags) rest there in
+        back-both n₁ n₂ k d m p w u t₁ t₂ rest a x y
+        (rw (append-assoc t₁ (signByte s ∷ t₂) rest)
+        (chain-more s (next d) d k _ _ _ (x .holds) (sign-next (x .place) s (t₂ ++ rest)) (fewer n₁ n₂ k d m p w u t₁ t₂ rest a (x .count) (x .holds .signs))
+        (rw (sign-past (x .place) s (t₂ ++ rest)) (y .holds))))
 
     -- an operand and all that follows, of a level that groups to the right
-    pub right-join : {n₁ n₂ : ℕ} {t₁ t₂ : List ℕ} {a₁ a₂ : After} {g h : Guard} → ReadsAs (λ d. plain (next d)) k n₁ t₁ a₁ g → ReadsAs (λ d. toTheRight s (next d)) (k + 1) n₂ t₂ a₂ h →
+    pub right-join : {n₁ n₂ : ℕ} {t₁ t₂ : List ℕ} {a₁ a₂ : After} {g h : Guard} → ReadsAs (λ d. plain (next d)) k n₁ t₁ a₁ g →
+        ReadsAs (λ d. toTheRight s (next d)) (k + 1) n₂ t₂ a₂ h →
         ReadsAs (λ d. toTheRight s (next d)) (k + 1) (max n₁ n₂) (t₁ ++ (signByte s ∷ t₂)) (afterBoth (length t₁) a₁ a₂) (joined s g h)
-    unfolding met renamed
+    unfolding renamed
     right-join {n₁} {n₂} {t₁} {t₂} {a₁} {a₂} {g} {h} c r d m p w u rest a =
         let x = c d m p w u (signByte s ∷ (t₂ ++ rest)) (ready-left n₁ n₂ (k + 1) d m p w u t₁ t₂ rest a) in
-        let y = r d (x .count + 1) (suc (x .place)) (met w g) (x .flags) rest (ready-right n₁ n₂ (k + 1) d m p w u t₁ t₂ rest a (x .count) (x .place) (x .flags) (x .reads .signs) (x .there) (x .matches)) in
-        record {
-          flags = y .flags;
-          count = y .count;
-          place = y .place;
-          flagsAre = both-seen (x .flags) (y .flags) u p (x .place) (length t₁) a₁ a₂ (x .flagsAre) (x .placeIs) (y .flagsAre);
-          placeIs = omega (arith, x .placeIs, y .placeIs, length-append t₁ (signByte s ∷ t₂));
-          there = y .there;
-          matches = y .matches;
-          reads =
-              rw (append-assoc t₁ (signByte s ∷ t₂) rest)
-              (right-two s (next d) d k _ _ _ (x .reads) (sign-next (x .place) s (t₂ ++ rest)) (fewer n₁ n₂ (k + 1) d m p w u t₁ t₂ rest a (x .count) (x .reads .signs))
-              (rw (sign-past (x .place) s (t₂ ++ rest)) (y .reads)));
-        }
-
-    -- a level that groups to the right has all the room that there can be
-    pub right-whole : {n j : ℕ} {text : List ℕ} {sees : After} {g : Guard} → ReadsAs (λ d. toTheRight s (next d)) j n text sees g → ReadsAs (λ d. plain (rightLevel s (next d))) j n text sees g
-    unfolding rightLevel
-    right-whole r d m p w u rest a =
-        let x = r d m p w u rest a in
-        record {
-          flags = x .flags;
-          count = x .count;
-          place = x .place;
-          flagsAre = x .flagsAre;
-          placeIs = x .placeIs;
-          there = x .there;
-          matches = x .matches;
-          reads = record {
-            parsed = λ _ _. x .reads .parsed connectiveCeiling (omega arith);
-            walked = x .reads .walked;
-            signs = x .reads .signs;
-            stops = x .reads .stops;
-          };
-        }
+        let there = ready-right n₁ n₂ (k + 1) d m p w u t₁ t₂ rest a (x .count) (x .place) (x .flags) (x .holds .signs) (x .there) (x .matches) in
+        let y = r d (x .count + 1) (suc (x .place)) (met w g) (x .flags) rest there in
+        back-both n₁ n₂ (k + 1) d m p w u t₁ t₂ rest a x y
+        (rw (append-assoc t₁ (signByte s ∷ t₂) rest)
+        (right-two s (next d) d k _ _ _ (x .holds) (sign-next (x .place) s (t₂ ++ rest)) (fewer n₁ n₂ (k + 1) d m p w u t₁ t₂ rest a (x .count) (x .holds .signs))
+        (rw (sign-past (x .place) s (t₂ ++ rest)) (y .holds))))

@@ -1,18 +1,18 @@
 -- The operands read back: a code, `#0` and `#1`, `!` before an operand, and a guard in brackets.
 use Prim.Native.Nat.{ℕ, suc, _+_, _-_, _≤_, _<_}
 use native.Mathlib.Omega.{arith}
-use mathlib.Core.Path.{_≡_, refl, sym, ap, _∙_}
+use mathlib.Core.Path.{_≡_, refl, ap, _∙_}
 use mathlib.Core.Bool.{Bool}
 use mathlib.Core.List.{List, [], _∷_, _++_, append-assoc}
 use lib.ListN.{length, take, drop, length-append}
 use lib.Seq.{take-at}
 use borrow.Author.Tests.{le-leb}
-use Rattle.notation.specs.Ceilings.{bracketCeiling, flagCeiling, connectiveCeiling}
-use Rattle.notation.specs.Tokens.{Code, Tokens, code, hash, bang, opening, closing, at, choose, tokensFrom}
+use Rattle.notation.specs.Ceilings.{bracketCeiling, flagCeiling}
+use Rattle.notation.specs.Tokens.{Code, Tokens, code, bang, opening, closing, at, choose, tokensFrom}
 use Rattle.notation.specs.Walk.{Flag, seen, walk, operand, after, within}
 use Rattle.notation.specs.Guard.{Guard, flag, truth, negated, connectives}
 use Rattle.notation.specs.Grammar.{Level, Parsed, found, follow, number, closed, operandOf, inBrackets, sameOf}
-use Rattle.notation.specs.Levels.{plain, Reads, operandsAt}
+use Rattle.notation.specs.Levels.{plain, operandsAt}
 use Rattle.notation.proofs.Operands.{no-tighter}
 use Rattle.reading_back.specs.Written.{Stands, met, order, placeIn, renamed, written, Placed, WithinCeilings}
 use Rattle.reading_back.proofs.Codes.{matches-length, matches-seen, number-is, begins-length}
@@ -76,7 +76,7 @@ module _ (codes : ℕ → Code) (whole : Guard) (ceilings : WithinCeilings codes
         placeIs = refl;
         there = after-part (written codes 0 whole) (codes i) rest p (a .here);
         matches = v;
-        reads = record {
+        holds = record {
           parsed = λ f h. rw cut (code-parsed (inBrackets (bracketCeiling - d)) u p (codes i) (tokensFrom (p + length (codes i)) 0 rest) ∙ ap (λ (j : ℕ). found (flag j) (seen p (codes i) u) (tokensFrom (p + length (codes i)) 0 rest)) is);
           walked = rw cut (code-walked d u m p (codes i) (tokensFrom (p + length (codes i)) 0 rest) few);
           signs = omega arith;
@@ -95,7 +95,7 @@ module _ (codes : ℕ → Code) (whole : Guard) (ceilings : WithinCeilings codes
     placeIs = omega arith;
     there = after-byte (written codes 0 whole) (choose b 49 48) rest (suc p) (after-byte (written codes 0 whole) 35 (choose b 49 48 ∷ rest) p (a .here));
     matches = a .matches;
-    reads = record {
+    holds = record {
       parsed = λ f h. ap (operandsAt d u) (hash-cut p b rest);
       walked = ap (walk operand d u m) (hash-cut p b rest);
       signs = omega arith;
@@ -124,11 +124,11 @@ module _ (codes : ℕ → Code) (whole : Guard) (ceilings : WithinCeilings codes
         placeIs = omega (arith, x .placeIs);
         there = x .there;
         matches = x .matches;
-        reads = record {
-          parsed = λ f h. rw (bang-cut p (text ++ rest)) (bang-parsed (inBrackets (bracketCeiling - d)) u p _ _ _ _ (x .reads .parsed f h));
-          walked = rw (bang-cut p (text ++ rest)) (x .reads .walked);
-          signs = x .reads .signs;
-          stops = x .reads .stops;
+        holds = record {
+          parsed = λ f h. rw (bang-cut p (text ++ rest)) (bang-parsed (inBrackets (bracketCeiling - d)) u p _ _ _ _ (x .holds .parsed f h));
+          walked = rw (bang-cut p (text ++ rest)) (x .holds .walked);
+          signs = x .holds .signs;
+          stops = x .holds .stops;
         };
       }
 
@@ -157,10 +157,10 @@ module _ (codes : ℕ → Code) (whole : Guard) (ceilings : WithinCeilings codes
         placeIs = omega (arith, x .placeIs, length-append text (41 ∷ []));
         there = after-byte (written codes 0 whole) 41 rest (x .place) (x .there);
         matches = x .matches;
-        reads = record {
-          parsed = λ f h. rw cut (bracket-parsed d u p (x .place) _ _ _ _ room (x .reads .parsed f h ∙ ap (λ (ts : Tokens). found (numbered codes whole ceilings g) (x .flags) ts) shut));
-          walked = rw cut (opening-walked d u m p _ room ∙ x .reads .walked ∙ ap (walk after (suc d) (x .flags) (x .count)) shut ∙ closing-walked d (x .flags) (x .count) (x .place) _);
-          signs = x .reads .signs;
+        holds = record {
+          parsed = λ f h. rw cut (bracket-parsed d u p (x .place) _ _ _ _ room (x .holds .parsed f h ∙ ap (λ (ts : Tokens). found (numbered codes whole ceilings g) (x .flags) ts) shut));
+          walked = rw cut (opening-walked d u m p _ room ∙ x .holds .walked ∙ ap (walk after (suc d) (x .flags) (x .count)) shut ∙ closing-walked d (x .flags) (x .count) (x .place) _);
+          signs = x .holds .signs;
           stops = λ t h. absurd (no-tighter t h);
         };
       }

@@ -1,18 +1,18 @@
 -- Reading back: the text of a tree within the ceilings is read as that tree, its flags numbered by first appearance.
-use Prim.Native.Nat.{ℕ, _+_, _*_, _≤_}
+use Prim.Native.Nat.{ℕ, _≤_}
 use native.Mathlib.Omega.{arith}
 use mathlib.Core.Path.{_≡_, refl, sym, ap, _∙_}
 use mathlib.Core.List.{List, [], _++_, append-nil}
 use lib.ListN.{length}
 use borrow.Author.Tests.{le-leb}
-use Rattle.notation.specs.Ceilings.{textCeiling, connectiveCeiling, bracketCeiling}
+use Rattle.notation.specs.Ceilings.{textCeiling, connectiveCeiling}
 use Rattle.notation.specs.Tokens.{Code, Tokens, tokens, tokensFrom}
 use Rattle.notation.specs.Walk.{Flag, accepted, walk, operand, after}
 use Rattle.notation.specs.Guard.{Guard}
 use Rattle.notation.specs.Grammar.{found, sameOf, treeOf, tree}
-use Rattle.notation.specs.Levels.{operandsAt}
+use Rattle.notation.specs.Levels.{operandsAt, Reads}
 use Rattle.notation.specs.Reading.{reading, judged, guard}
-use Rattle.reading_back.specs.Written.{met, order, renumbered, written, nesting, Stands, flagsOf, Placed, EachPlaced, WithinCeilings}
+use Rattle.reading_back.specs.Written.{met, order, placeIn, renamed, renumbered, written, nesting, Stands, flagsOf, Placed, EachPlaced, WithinCeilings}
 use Rattle.reading_back.proofs.Codes.{nothing, matches-each}
 use Rattle.reading_back.proofs.Cutting.{end-parted, end-stops}
 use Rattle.reading_back.proofs.Levels.{Ready, Back}
@@ -44,7 +44,9 @@ module _ (codes : ℕ → Code) (g : Guard) (ceilings : WithinCeilings codes g) 
     stops = end-stops 4;
   }
 
-  whole : Back codes g ceilings (levelsAt 0 0) 0 4 0 0 [] [] (written codes 0 g) [] (seenAfter codes 0 g) g
+  whole : Back codes g ceilings
+      (λ v i q. Reads (levelsAt 0 0) 0 4 [] 0 (tokensFrom 0 0 (written codes 0 g ++ [])) (renamed (placeIn (order g)) g) v i (tokensFrom q 0 []))
+      0 [] [] (written codes 0 g) [] (seenAfter codes 0 g) g
   whole = reads-back codes g ceilings g (λ i e. e) .level 0 (omega arith) 0 0 0 [] [] [] ready
 
   -- the flags that are seen
@@ -57,8 +59,8 @@ module _ (codes : ℕ → Code) (g : Guard) (ceilings : WithinCeilings codes g) 
   read-back =
       let nil : written codes 0 g ++ [] ≡ written codes 0 g = append-nil (written codes 0 g) in
       read-found (written codes 0 g) (renumbered g) (whole .flags) (whole .count) (tokensFrom (whole .place) 0 []) (ceilings .text)
-      (rw nil at (whole .reads .walked ∙ end-walked (whole .flags) (whole .count) (whole .place)))
-      (rw nil at (whole .reads .parsed connectiveCeiling (omega arith)))
+      (rw nil at (whole .holds .walked ∙ end-walked (whole .flags) (whole .count) (whole .place)))
+      (rw nil at (whole .holds .parsed connectiveCeiling (omega arith)))
       ∙ ap (guard (renumbered g)) flags-are
 
   -- each code stands in the text at the place of its flag
