@@ -67,6 +67,7 @@ module _ (codes : ℕ → Code) (whole : Guard) (ceilings : WithinCeilings codes
       let is : number (codes i) u ≡ placeIn all i = number-is codes P Q (ceilings .apart) i all st (a .matches) (a .begins) in
       let few : length (seen p (codes i) u) ≤ flagCeiling
       = omega (arith, matches-length codes P Q (ceilings .apart) v, begins-length (met w (flag i)) all (a .begins), ceilings .flags) in
+      let ts : Tokens = tokensFrom (p + length (codes i)) 0 rest in
       let cut = code-cut p (codes i) rest (ceilings .coded i st) (a .parted) in
       record {
         flags = seen p (codes i) u;
@@ -77,8 +78,8 @@ module _ (codes : ℕ → Code) (whole : Guard) (ceilings : WithinCeilings codes
         there = after-part (written codes 0 whole) (codes i) rest p (a .here);
         matches = v;
         holds = record {
-          parsed = λ f h. rw cut (code-parsed (inBrackets (bracketCeiling - d)) u p (codes i) (tokensFrom (p + length (codes i)) 0 rest) ∙ ap (λ (j : ℕ). found (flag j) (seen p (codes i) u) (tokensFrom (p + length (codes i)) 0 rest)) is);
-          walked = rw cut (code-walked d u m p (codes i) (tokensFrom (p + length (codes i)) 0 rest) few);
+          parsed = λ f h. rw cut (code-parsed (inBrackets (bracketCeiling - d)) u p (codes i) ts ∙ ap (λ (j : ℕ). found (flag j) (seen p (codes i) u) ts) is);
+          walked = rw cut (code-walked d u m p (codes i) ts few);
           signs = omega arith;
           stops = λ t h. absurd (no-tighter t h);
         };

@@ -152,6 +152,7 @@ module _ (codes : ℕ → Code) (whole : Guard) (ceilings : WithinCeilings codes
     bare : List ℕ
     bare = written codes (leftOf s) g ++ (signByte s ∷ written codes (rightOf s) h)
 
+    -- the brackets open at once in it, and the flags seen after it
     depth : ℕ
     depth = max (nesting (leftOf s) g) (nesting (rightOf s) h)
 
@@ -160,27 +161,42 @@ module _ (codes : ℕ → Code) (whole : Guard) (ceilings : WithinCeilings codes
 
     bare-reads : LevelAs (levelOf s) depth bare inside (joined s g h)
     unfolding bare depth inside
-    bare-reads = own-level s (nesting (leftOf s) g) (written codes (leftOf s) g) (seenAfter codes (leftOf s) g) g (x .left s) (y .level (rightOf s) (right-below s))
+    bare-reads =
+        own-level s (nesting (leftOf s) g) (written codes (leftOf s) g) (seenAfter codes (leftOf s) g) g (x .left s) (y .level (rightOf s) (right-below s))
+
+    -- with brackets where b says so: what the level l reads, and what may stand on the left of t
+    abbrev LevelBy : Bool → ℕ → Type 0
+    LevelBy b l = LevelAs l (choose b 1 0 + depth) (bracketed b bare) (λ p u. inside (choose b (suc p) p) u) (joined s g h)
+
+    abbrev LeftBy : Bool → Sign → Type 0
+    LeftBy b t = LeftAs t (choose b 1 0 + depth) (bracketed b bare) (λ p u. inside (choose b (suc p) p) u) (joined s g h)
 
     -- with brackets at any level, without them up to the sign's
-    by-bracket : (b : Bool) (l : ℕ) → l ≤ 4 → (b ≡ false → l ≤ levelOf s) → LevelAs l (choose b 1 0 + depth) (bracketed b bare) (λ p u. inside (choose b (suc p) p) u) (joined s g h)
+    by-bracket : (b : Bool) (l : ℕ) → l ≤ 4 → (b ≡ false → l ≤ levelOf s) → LevelBy b l
     unfolding bracketed
-    by-bracket true l h k = loosened 4 l h (omega arith) (bracket-back codes whole ceilings (loosened (levelOf s) 0 (omega arith) (omega (arith, level-below s)) bare-reads))
+    by-bracket true l h k =
+        let loosest = loosened (levelOf s) 0 (omega arith) (omega (arith, level-below s)) bare-reads in
+        loosened 4 l h (omega arith) (bracket-back codes whole ceilings loosest)
     by-bracket false l h k = rw (zero-add depth) (loosened (levelOf s) l (k refl) (omega (arith, level-below s)) bare-reads)
 
-    at-level : (l : ℕ) → l ≤ 4 → LevelAs l (choose (ltb (levelOf s) l) 1 0 + depth) (bracketed (ltb (levelOf s) l) bare) (λ p u. inside (choose (ltb (levelOf s) l) (suc p) p) u) (joined s g h)
+    at-level : (l : ℕ) → l ≤ 4 → LevelBy (ltb (levelOf s) l) l
     at-level l h = by-bracket (ltb (levelOf s) l) l h (ltb-false (levelOf s) l)
 
-    on-the-left : (t : Sign) → LeftAs t (choose (ltb (levelOf s) (leftOf t)) 1 0 + depth) (bracketed (ltb (levelOf s) (leftOf t)) bare) (λ p u. inside (choose (ltb (levelOf s) (leftOf t)) (suc p) p) u) (joined s g h)
+    -- the chain of a sign that groups to the left goes on with no bracket
+    own-chain : leftOf s ≡ levelOf s → LeftBy false s
     unfolding bracketed bare depth inside
+    own-chain e =
+        rw (zero-add depth)
+        (left-join s e (nesting (leftOf s) g) (written codes (leftOf s) g) (seenAfter codes (leftOf s) g) g (x .left s) (y .level (rightOf s) (right-below s)))
+
+    on-the-left : (t : Sign) → LeftBy (ltb (levelOf s) (leftOf t)) t
     on-the-left t =
         ⊎-elim
         (λ (e : ltb (levelOf s) (suc (levelOf t)) ≡ ltb (levelOf s) (leftOf t)).
-        subst (λ (b : Bool). LeftAs t (choose b 1 0 + depth) (bracketed b bare) (λ p u. inside (choose b (suc p) p) u) (joined s g h)) e (left-start t (at-level (suc (levelOf t)) (level-below t))))
+        subst (λ (b : Bool). LeftBy b t) e (left-start t (at-level (suc (levelOf t)) (level-below t))))
         (λ (e : (s ≡ t) × (leftOf s ≡ levelOf s)).
-        subst (λ (r : Sign). LeftAs r (choose (ltb (levelOf s) (leftOf r)) 1 0 + depth) (bracketed (ltb (levelOf s) (leftOf r)) bare) (λ p u. inside (choose (ltb (levelOf s) (leftOf r)) (suc p) p) u) (joined s g h)) (e .0)
-        (subst (λ (b : Bool). LeftAs s (choose b 1 0 + depth) (bracketed b bare) (λ p u. inside (choose b (suc p) p) u) (joined s g h)) (sym (ap (ltb (levelOf s)) (e .1) ∙ not-below (levelOf s)))
-        (rw (zero-add depth) (left-join s (e .1) (nesting (leftOf s) g) (written codes (leftOf s) g) (seenAfter codes (leftOf s) g) g (x .left s) (y .level (rightOf s) (right-below s))))))
+        let none : ltb (levelOf s) (leftOf s) ≡ false = ap (ltb (levelOf s)) (e .1) ∙ not-below (levelOf s) in
+        subst (λ (r : Sign). LeftBy (ltb (levelOf s) (leftOf r)) r) (e .0) (subst (λ (b : Bool). LeftBy b s) (sym none) (own-chain (e .1))))
         (own-or-tighter t s)
 
     joined-back : ReadsBack (joined s g h)
