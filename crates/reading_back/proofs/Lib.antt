@@ -1,0 +1,11 @@
+pub mod Codes
+pub mod Order
+pub mod First
+pub mod Cutting
+pub mod Levels
+pub mod Operands
+pub mod Trees
+pub mod ReadBack
+pub mod Served
+pub mod InOrder
+pub mod Examples
