@@ -4,7 +4,7 @@ use mathlib.Core.Path.{_≡_, refl, sym}
 use mathlib.Core.Bool.{Bool, true, false}
 use mathlib.Core.Logic.{⊎-elim}
 use Rattle.relation.specs.Relation.{Rel, IsRelation, Within}
-use Rattle.relation.specs.Least.{Least, Holds}
+use Rattle.relation.specs.Least.{Least, Growth, Holds}
 use Rattle.relation.specs.Classes.{signed}
 use Rattle.relation.proofs.LiteralLaws.{sign-cases, signed-even, signed-odd}
 
@@ -24,6 +24,22 @@ within-trans R S T p q l m e = q l m (p l m e)
 -- the least relation above R with P lies below every relation above R with P
 pub least-below : (P : Rel → Type 0) (R S A : Rel) → Least P R S → IsRelation A → Within R A → P A → Within S A
 least-below P R S A s a w p l m e = s .forced l m e A a w p
+
+-- growing by nothing, and by more
+pub growth-none : (P : Rel → Type 0) (R : Rel) → Growth P R R
+growth-none P R = record { above = within-refl R; below = λ A a w p. w }
+
+pub growth-more : (P : Rel → Type 0) (R S T : Rel) → Growth P R S → Growth P S T → Growth P R T
+growth-more P R S T s t =
+    record {
+      above = within-trans R S T (s .above) (t .above);
+      below = λ A a w p. t .below A a (s .below A a w p) p;
+    }
+
+-- once it has the property itself, it is the least that has
+pub growth-least : (P : Rel → Type 0) (R S : Rel) → IsRelation S → P S → Growth P R S → Least P R S
+growth-least P R S r p s =
+    record { relation = r; above = s .above; has = p; forced = λ l m e A a w q. s .below A a w q l m e }
 
 -- two least relations above R with P hold the same equalities
 pub least-unique : (P : Rel → Type 0) (R S T : Rel) → Least P R S → Least P R T → (l m : ℕ) → S l m ≡ T l m

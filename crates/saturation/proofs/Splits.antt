@@ -7,27 +7,11 @@ use mathlib.Core.List.{List, _∷_}
 use mathlib.Core.Logic.{_↔_}
 use Rattle.notation.specs.Triplets.{Triplet, negation}
 use Rattle.relation.specs.Relation.{Rel, IsRelation, Within}
-use Rattle.relation.specs.Least.{Least}
 use Rattle.saturation.specs.Saturation.{taking, taken, Stable, Saturated, SaturationOf}
-use Rattle.saturation.specs.Contracts.{Growth, HoldsSplit}
+use Rattle.saturation.specs.Contracts.{HoldsSplit}
 use Rattle.saturation.specs.Answer.{Refuted}
 use Rattle.saturation.proofs.Taking.{HoldsAll, above-taking, taking-above, taking-holds, above-taken, taken-above}
 use Rattle.saturation.proofs.Depth.{saturated-held, saturated-in-turn}
-
-pub growth-none : (P : Rel → Type 0) (R : Rel) → Growth P R R
-growth-none P R = record { above = λ l m e. e; below = λ A a w p. w }
-
-pub growth-more : (P : Rel → Type 0) (R S T : Rel) → Growth P R S → Growth P S T → Growth P R T
-growth-more P R S T s t =
-    record {
-      above = λ l m e. t .above l m (s .above l m e);
-      below = λ A a w p. t .below A a (s .below A a w p) p;
-    }
-
--- once it has the property itself, it is the least that has
-pub growth-least : (P : Rel → Type 0) (R S : Rel) → IsRelation S → P S → Growth P R S → Least P R S
-growth-least P R S r p s =
-    record { relation = r; above = s .above; has = p; forced = λ l m e A a w q. s .below A a w q l m e }
 
 module _ (D : ℕ → Type 0) (ts : List Triplet) where
   pub saturated-more : (k : ℕ) (R S : Rel) (l m : ℕ) → Within R S → Saturated D ts k R l m → Saturated D ts k S l m

@@ -6,16 +6,12 @@ use mathlib.Core.List.{List}
 use mathlib.Core.Logic.{_⊎_}
 use Rattle.notation.specs.Triplets.{Triplet}
 use Rattle.notation.specs.Ceilings.{flagCeiling}
-use Rattle.relation.specs.Relation.{Rel, IsRelation, Within}
+use Rattle.relation.specs.Relation.{Rel, Within}
+use Rattle.relation.specs.Least.{Growth}
 use Rattle.relation.specs.Classes.{Classes, kept}
 use Rattle.steps.specs.Rest.{NoStepEnlarges}
 use Rattle.steps.specs.Contracts.{Readable, inUse, tripletsAt}
 use Rattle.saturation.specs.Saturation.{taking, Stable, Saturated, SaturationOf, Flags}
-
--- S is above R, and below every relation above R that has the property P
-pub record Growth (P : Rel → Type 0) (R S : Rel) : Type 0 where
-  pub above : Within R S
-  pub below : (A : Rel) → IsRelation A → Within R A → P A → Within S A
 
 -- S ties the variable f to true or to false
 abbrev pub Ties : Rel → ℕ → Type 0

@@ -10,15 +10,15 @@ use Rattle.notation.specs.Ceilings.{flagCeiling, connectiveCeiling}
 use Rattle.notation.specs.Triplets.{Triplet, tripletVariable, Each}
 use Rattle.notation.specs.Shape.{Names, kindAt, yAt, zAt, Shape}
 use Rattle.relation.specs.Relation.{Rel, IsRelation, Within}
-use Rattle.relation.specs.Least.{Least}
+use Rattle.relation.specs.Least.{Growth}
 use Rattle.relation.specs.Classes.{entry, relation, contradictory, kept, Classes, rank}
 use Rattle.notation.proofs.Cases.{split-eq}
-use Rattle.relation.proofs.RelationLaws.{within-refl, within-trans, least-below}
+use Rattle.relation.proofs.RelationLaws.{within-trans, growth-none, growth-more, growth-least, least-below}
 use Rattle.relation.proofs.ClassLaws.{relation-all, is-relation}
 use Rattle.relation.proofs.RankLaws.{rank-settles}
 use Rattle.steps.specs.Step.{Side, literalAt, Adds, HoldsStep}
 use Rattle.steps.specs.Rest.{HoldsStepOn, NoStepEnlarges}
-use Rattle.steps.specs.Contracts.{Usable, Readable, inUse, tripletsAt, Grown, Passed, Rested, Stepped}
+use Rattle.steps.specs.Contracts.{Usable, Readable, inUse, tripletsAt, Passed, Rested, Stepped}
 use Rattle.notation.proofs.EachTriplet.{each-map, each-left, each-right, each-both, tripletAt}
 
 -- ---- the triplets by their numbers
@@ -98,31 +98,15 @@ usable-at numbers c j x r h e =
       of-z = names-inside c j (zAt numbers j) h (r .shape .zs j h);
     }
 
--- ---- growth
-pub grown-none : (ts : List Triplet) (R : Rel) → Grown ts R R
-grown-none ts R = record { above = within-refl R; below = λ A a w h. w }
-
-pub grown-then : (ts : List Triplet) (R S T : Rel) → Grown ts R S → Grown ts S T → Grown ts R T
-grown-then ts R S T g h =
-    record {
-      above = within-trans R S T (g .above) (h .above);
-      below = λ A a w q. h .below A a (g .below A a w q) q;
-    }
-
--- where no step enlarges what has grown, it is the least
-pub grown-least : (ts : List Triplet) (R S : Rel) → IsRelation S → Grown ts R S → NoStepEnlarges ts S → Least (NoStepEnlarges ts) R S
-grown-least ts R S s g h =
-    record { relation = s; above = g .above; has = h; forced = λ l m e A a w q. g .below A a w q l m e }
-
 -- ---- a pass that has come to triplet j
 pub record Passing (numbers : List ℕ) (c j : ℕ) (xs ys : List ℕ) : Type 0 where
   pub classes : Classes (inUse c) ys
-  pub grown : Grown (tripletsAt numbers c) (kept xs) (kept ys)
+  pub grown : Growth (NoStepEnlarges (tripletsAt numbers c)) (kept xs) (kept ys)
   pub idle : Within (kept ys) (kept xs) → (i : ℕ) → i < j → HoldsStepOn (kept xs) (kept xs) (tripletAt numbers i) (2 * tripletVariable (i + 1))
 
 pub passing-start : (numbers : List ℕ) (c : ℕ) (xs : List ℕ) → Classes (inUse c) xs → Passing numbers c 0 xs xs
 passing-start numbers c xs k =
-    record { classes = k; grown = grown-none (tripletsAt numbers c) (kept xs); idle = λ w i h. absurd (omega arith) }
+    record { classes = k; grown = growth-none (NoStepEnlarges (tripletsAt numbers c)) (kept xs); idle = λ w i h. absurd (omega arith) }
 
 pub passing-next : (numbers : List ℕ) (c j x : ℕ) (xs ys zs : List ℕ) → j < c → Passing numbers c j xs ys
     → x ≡ 2 * tripletVariable (j + 1) → Stepped (inUse c) (tripletAt numbers j .kind) x (tripletAt numbers j .y) (tripletAt numbers j .z) ys zs
@@ -130,7 +114,7 @@ pub passing-next : (numbers : List ℕ) (c j x : ℕ) (xs ys zs : List ℕ) → 
 passing-next numbers c j x xs ys zs h p here s =
     record {
       classes = s .classes;
-      grown = grown-then ts (kept xs) (kept ys) (kept zs) (p .grown)
+      grown = growth-more (NoStepEnlarges ts) (kept xs) (kept ys) (kept zs) (p .grown)
           (record {
             above = s .least .above;
             below = λ A a w q.
@@ -183,7 +167,7 @@ passing-broken numbers c j xs ys e p =
 -- ---- passes that have come to ys, the last of which found the rank was and left the rank left
 pub record Settling (numbers : List ℕ) (c : ℕ) (xs ys : List ℕ) (left was : ℕ) : Type 0 where
   pub classes : Classes (inUse c) ys
-  pub grown : Grown (tripletsAt numbers c) (kept xs) (kept ys)
+  pub grown : Growth (NoStepEnlarges (tripletsAt numbers c)) (kept xs) (kept ys)
   pub ranks : left ≡ rank (inUse c) (entry ys)
   pub quiet : was ≤ left → NoStepEnlarges (tripletsAt numbers c) (kept ys)
 
@@ -191,7 +175,7 @@ pub settling-start : (numbers : List ℕ) (c : ℕ) (xs : List ℕ) (left : ℕ)
 settling-start numbers c xs left k e =
     record {
       classes = k;
-      grown = grown-none (tripletsAt numbers c) (kept xs);
+      grown = growth-none (NoStepEnlarges (tripletsAt numbers c)) (kept xs);
       ranks = e;
       quiet = λ h. absurd (omega arith);
     }
@@ -200,7 +184,7 @@ pub settling-next : (numbers : List ℕ) (c : ℕ) (xs ys zs : List ℕ) (left w
 settling-next numbers c xs ys zs left was next s p e =
     record {
       classes = p .classes;
-      grown = grown-then (tripletsAt numbers c) (kept xs) (kept ys) (kept zs) (s .grown) (p .grown);
+      grown = growth-more (NoStepEnlarges (tripletsAt numbers c)) (kept xs) (kept ys) (kept zs) (s .grown) (p .grown);
       ranks = e;
       quiet = λ h.
           let back : Within (kept zs) (kept ys) =
@@ -213,5 +197,5 @@ pub settling-done : (numbers : List ℕ) (c : ℕ) (xs ys : List ℕ) (left was 
 settling-done numbers c xs ys left was h s =
     record {
       classes = s .classes;
-      least = grown-least (tripletsAt numbers c) (kept xs) (kept ys) (is-relation (entry ys)) (s .grown) (s .quiet h);
+      least = growth-least (NoStepEnlarges (tripletsAt numbers c)) (kept xs) (kept ys) (is-relation (entry ys)) (s .quiet h) (s .grown);
     }

@@ -7,7 +7,7 @@ use Rattle.notation.specs.Triplets.{Triplet}
 use Rattle.notation.specs.Shape.{kindAt, yAt, zAt, Shape}
 use Rattle.notation.specs.Ceilings.{flagCeiling, connectiveCeiling}
 use Rattle.relation.specs.Relation.{Rel, IsRelation, Within}
-use Rattle.relation.specs.Least.{Least}
+use Rattle.relation.specs.Least.{Least, Growth}
 use Rattle.relation.specs.Classes.{Classes, kept}
 use Rattle.steps.specs.Step.{HoldsStep}
 use Rattle.steps.specs.Table.{entry, NamesHold}
@@ -51,15 +51,10 @@ pub record Readable (numbers : List ℕ) (c : ℕ) : Type 0 where
   pub few : c ≤ connectiveCeiling
   pub shape : Shape flagCeiling c numbers
 
--- S is above R, and below every relation above R that no step enlarges
-pub record Grown (ts : List Triplet) (R S : Rel) : Type 0 where
-  pub above : Within R S
-  pub below : (A : Rel) → IsRelation A → Within R A → NoStepEnlarges ts A → Within S A
-
 -- a step on each of the first c triplets in turn: where that enlarges nothing, no step does
 pub record Passed (numbers : List ℕ) (c : ℕ) (xs ys : List ℕ) : Type 0 where
   pub classes : Classes (inUse c) ys
-  pub grown : Grown (tripletsAt numbers c) (kept xs) (kept ys)
+  pub grown : Growth (NoStepEnlarges (tripletsAt numbers c)) (kept xs) (kept ys)
   pub idle : Within (kept ys) (kept xs) → NoStepEnlarges (tripletsAt numbers c) (kept xs)
 
 -- ys keeps the least relation above that of xs which no step on one of the first c triplets enlarges
