@@ -1,7 +1,7 @@
 // Prints a text and what a service answers for it, one line each.
-use gaps::list::list;
-use gaps::listing::Listing;
 use gaps::writing::Found;
+use listing::Listing;
+use listing::list;
 use notation::ceilings::TRIPLETS_ROOM;
 use notation::refusal::Refusal;
 use reading::name::Named;

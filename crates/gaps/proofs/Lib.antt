@@ -1,17 +1,5 @@
-pub mod Bits
 pub mod Ascending
 pub mod Written
 pub mod Words
-pub mod RowsMade
-pub mod Gates
-pub mod Evaluating
-pub mod Flags
 pub mod Since
 pub mod RowWriting
-pub mod Fixes
-pub mod Standing
-pub mod Blocks
-pub mod Walks
-pub mod Complete
-pub mod OfGuard
-pub mod Listed

@@ -16,10 +16,10 @@ use Rattle.truth.specs.Computed.{literalValue}
 use Rattle.gaps.specs.declared.writing.Found.{Found}
 use Rattle.gaps.specs.declared.writing.Found.the-variants.{Done, More}
 use Rattle.gaps.specs.Gaps.{falseFrom}
-use Rattle.gaps.specs.Rows.{inRow, turned}
+use Rattle.rows.specs.Rows.{inRow, turned}
 use Rattle.gaps.specs.Writing.{Writes, since, wordsOf, LiveWord}
-use Rattle.gaps.proofs.Bits.{bit-and}
-use Rattle.gaps.proofs.Gates.{turned-other}
+use Rattle.rows.proofs.Bits.{bit-and}
+use Rattle.rows.proofs.Gates.{turned-other}
 use Rattle.gaps.proofs.Ascending.{false-none, false-parts}
 use Rattle.gaps.proofs.Since.{since-same, words-few, words-exact}
 use Rattle.gaps.proofs.Words.{marked}

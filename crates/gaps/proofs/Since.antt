@@ -12,9 +12,9 @@ use Rattle.notation.specs.Tokens.{choose}
 use Rattle.truth.specs.Value.{bit}
 use Rattle.gaps.specs.Gaps.{falseFrom}
 use Rattle.gaps.specs.Writing.{since, wordsOf, LiveWord}
-use Rattle.gaps.proofs.Bits.{bit-shifted, bit-ones, every, every-at}
+use Rattle.rows.proofs.Bits.{bit-shifted, bit-ones, every, every-at}
 use Rattle.gaps.proofs.Ascending.{false-same, false-none, false-parts}
-use Rattle.gaps.proofs.Flags.{beq-eq}
+use Rattle.rows.proofs.Flags.{beq-eq}
 use Rattle.gaps.proofs.Words.{marked}
 
 pub since-on : (start : ℕ) (v : ℕ → Bool) (s : ℕ) → start ≤ s → since start v s ≡ v s

@@ -13,7 +13,7 @@ use Rattle.gaps.specs.Writing.{Writes}
 use Rattle.gaps.proofs.Written.{writes-none, writes-one, writes-full}
 use Rattle.truth.specs.Value.{bit}
 use Rattle.gaps.specs.Gaps.{falseFrom}
-use Rattle.gaps.proofs.Bits.{bit-shifted, bit-halved, bit-none, Lowest, lowest, lowest-found}
+use Rattle.rows.proofs.Bits.{bit-shifted, bit-halved, bit-none, Lowest, lowest, lowest-found}
 use Rattle.gaps.proofs.Ascending.{false-one, false-same, false-none, false-parts}
 
 -- the word stands for the states from `from` on

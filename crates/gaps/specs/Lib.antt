@@ -1,6 +1,2 @@
 pub mod Gaps
 pub mod Writing
-pub mod Rows
-pub mod Fixing
-pub mod Walking
-pub mod Listed

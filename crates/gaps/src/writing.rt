@@ -1,5 +1,5 @@
 // Writes states into the lent slice, in ascending order.
-use crate::rows::turn;
+use rows::turn;
 ghost use mathlib.Core.Path.{_≡_};
 ghost use mathlib.Core.Bool.{not};
 ghost use Prim.Native.Nat.{suc, _+_, _*_, _-_, _/_, _^_, _≤_, _<_};
@@ -7,7 +7,7 @@ ghost use lib.ListN.{length};
 ghost use Rattle.truth.specs.Value.{bit};
 ghost use Rattle.truth.specs.Computed.{literalValue};
 ghost use Rattle.gaps.specs.Gaps.{falseFrom};
-ghost use Rattle.gaps.specs.Rows.{inRow};
+ghost use Rattle.rows.specs.Rows.{inRow};
 ghost use Rattle.gaps.specs.Writing.{Writes, since, LiveWord, wordsOf};
 
 // What became of the states: all were written, and how many stand in the slice; or the slice is full, and which is the next.

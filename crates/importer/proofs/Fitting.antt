@@ -29,11 +29,11 @@ use Rattle.saturation.specs.Saturation.{Flags}
 use Rattle.saturation.proofs.Confirmed.{trial-below}
 use Rattle.gaps.specs.Gaps.{falseFrom, gapsFrom}
 use Rattle.gaps.specs.Writing as writing
-use Rattle.gaps.specs.Listed.{listed}
+use Rattle.listing.specs.Listed.{listed}
 use Rattle.gaps.specs.declared.writing.Found.{Found}
 use Rattle.gaps.specs.declared.writing.Found.the-variants as found
-use Rattle.gaps.specs.declared.listing.Listing.{Listing}
-use Rattle.gaps.specs.declared.listing.Listing.the-variants as listing
+use Rattle.listing.specs.declared.Listing.{Listing}
+use Rattle.listing.specs.declared.Listing.the-variants as listing
 use Rattle.gaps.proofs.Ascending.{false-not, false-one}
 use Rattle.verdict.specs.Check.{depthCeiling, asked, ReadingSays, CheckSays}
 use Rattle.verdict.specs.declared.verdicts.Verdict.{Verdict}

@@ -6,7 +6,7 @@ use lib.ListN.{length}
 use Rattle.notation.specs.Reading.{reading}
 use Rattle.reading.specs.Service.{readAnswer, roomAfter, nameAnswer}
 use Rattle.truth.specs.Evaluated.{evaluated}
-use Rattle.gaps.specs.Listed.{listed, filled}
+use Rattle.listing.specs.Listed.{listed, filled}
 use Rattle.verdict.specs.Check.{CheckSays}
 use Rattle.verdict.specs.declared.verdicts.Verdict.{Verdict}
 use Rattle.importer.specs.Packed.{packedVerdict, packedEvaluation, packedListing, packedParsed, packedNamed}

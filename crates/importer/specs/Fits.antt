@@ -12,8 +12,8 @@ use Rattle.truth.specs.declared.evaluate.Evaluation.{Evaluation}
 use Rattle.truth.specs.declared.evaluate.Evaluation.the-variants as evaluation
 use Rattle.gaps.specs.declared.writing.Found.{Found}
 use Rattle.gaps.specs.declared.writing.Found.the-variants as found
-use Rattle.gaps.specs.declared.listing.Listing.{Listing}
-use Rattle.gaps.specs.declared.listing.Listing.the-variants as listing
+use Rattle.listing.specs.declared.Listing.{Listing}
+use Rattle.listing.specs.declared.Listing.the-variants as listing
 use Rattle.verdict.specs.declared.verdicts.Verdict.{Verdict}
 use Rattle.verdict.specs.declared.verdicts.Verdict.the-variants as verdict
 

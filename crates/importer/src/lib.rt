@@ -1,7 +1,7 @@
 // The C side: entries over the bytes of a text, each answering one packed number. include/trestulan.h declares them.
 pub mod packing;
 
-use gaps::list::list;
+use listing::list;
 use packing::pack_evaluation;
 use packing::pack_listing;
 use packing::pack_named;

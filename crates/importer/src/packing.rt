@@ -1,6 +1,6 @@
 // Packs each answer into one number: kind x 2^32 + payload.
-use gaps::listing::Listing;
 use gaps::writing::Found;
+use listing::Listing;
 use notation::refusal::Refusal;
 use reading::name::Named;
 use reading::parse::Parsed;

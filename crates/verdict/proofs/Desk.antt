@@ -17,9 +17,9 @@ use Rattle.notation.specs.Reading.{guard, judged, reading}
 use Rattle.truth.specs.Value.{bit, table, value}
 use Rattle.gaps.specs.Gaps.{falseFrom, gapsFrom}
 use Rattle.gaps.specs.Writing.{found, placed}
-use Rattle.gaps.specs.Listed.{Lists, listed, filled}
+use Rattle.listing.specs.Listed.{Lists, listed, filled}
 use Rattle.gaps.specs.declared.writing.Found.the-variants.{Done, More}
-use Rattle.gaps.specs.declared.listing.Listing.the-variants as listing
+use Rattle.listing.specs.declared.Listing.the-variants as listing
 use Rattle.saturation.proofs.Desk as desk
 use Rattle.verdict.specs.Desk.{bytes, implication, DeskTable}
 use Rattle.verdict.specs.declared.verdicts.Verdict.the-variants.{Covered, Gap, Undecided}

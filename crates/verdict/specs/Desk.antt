@@ -9,9 +9,9 @@ use Rattle.notation.specs.Walk.{Flag}
 use Rattle.notation.specs.Guard.{Guard}
 use Rattle.notation.specs.Triplets.{Triplet, tripletVariable, triplets}
 use Rattle.notation.specs.Reading.{guard, reading}
-use Rattle.gaps.specs.Listed.{Lists}
+use Rattle.listing.specs.Listed.{Lists}
 use Rattle.gaps.specs.declared.writing.Found.the-variants.{Done, More}
-use Rattle.gaps.specs.declared.listing.Listing.the-variants as listing
+use Rattle.listing.specs.declared.Listing.the-variants as listing
 use Rattle.verdict.specs.Check.{CheckSays}
 use Rattle.verdict.specs.declared.verdicts.Verdict.{Verdict}
 use Rattle.verdict.specs.declared.verdicts.Verdict.the-variants.{Covered, Gap, Undecided}

@@ -1,8 +1,8 @@
 // The answer for the triplets of a guard, by the shorter of two ways.
 use crate::decide::Decision;
 use crate::decide::decide;
-use gaps::search::search;
 use gaps::writing::Found;
+use search::search;
 ghost use mathlib.Core.Path.{_≡_};
 ghost use Rattle.verdict.specs.Decision.{FromGuard, Decided, FullyDecided, firstGap};
 

@@ -1,6 +1,6 @@
 -- `writing::live_word` meets its contract: below 6 flags a computed table, from 6 on every bit.
 use borrow.Author.Needs.{needs}
-use Rattle.gaps.proofs.Since.{few, live-few, live-all}
+use Rattle.gaps.proofs.Since.{live-few, live-all}
 use Rattle.gaps.proofs.writing.live_word.Statement.{statement}
 use Rattle.gaps.proofs.writing.live_word.Tie as tie
 

@@ -1,12 +1,10 @@
 -- `writing::write_row` meets its contract: whatever is written of the words left is what the whole row asks.
-use Prim.Native.Nat.{ℕ, suc, _+_, _*_, _-_, _/_, _^_, _≤_, _<_}
-use mathlib.Core.Path.{_≡_, sym, ap, _∙_}
+use Prim.Native.Nat.{ℕ, suc, _+_, _*_, _-_, _/_, _≤_}
+use mathlib.Core.Path.{_≡_, ap, _∙_}
 use native.Mathlib.Omega.{arith}
-use lib.ListN.{length}
 use borrow.Author.Needs.{needs}
-use Rattle.gaps.specs.Gaps.{falseFrom}
-use Rattle.gaps.specs.Writing.{Writes, since, wordsOf}
-use Rattle.gaps.proofs.Gates.{rows-apart}
+use Rattle.gaps.specs.Writing.{since}
+use Rattle.rows.proofs.Gates.{rows-apart}
 use Rattle.gaps.proofs.RowWriting.{Stretch, stretch-start, stretch-more, stretch-stop, stretch-done, rowValue, row-word, row-whole, words-within}
 use Rattle.gaps.proofs.writing.write_row.Statement.{statement}
 use Rattle.gaps.proofs.writing.write_row.Tie as tie

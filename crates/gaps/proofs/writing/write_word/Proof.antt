@@ -1,6 +1,5 @@
 -- `writing::write_word` meets its contract: whatever is written of the rest of the word is what the whole word asks.
 use Prim.Native.Nat.{_+_, _-_, _≤_}
-use mathlib.Core.Path.{_∙_}
 use native.Mathlib.Omega.{arith}
 use borrow.Author.Needs.{needs}
 use lib.Count.{trailingZeros}

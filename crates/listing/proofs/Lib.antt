@@ -1,0 +1,3 @@
+pub mod Complete
+pub mod OfGuard
+pub mod Listed

@@ -1,0 +1,5 @@
+pub mod Bits
+pub mod RowsMade
+pub mod Gates
+pub mod Evaluating
+pub mod Flags
