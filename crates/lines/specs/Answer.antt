@@ -7,10 +7,6 @@ use Rattle.verdict.specs.declared.verdicts.Verdict.{Verdict}
 use Rattle.lines.specs.Question.{guardOf, LineSays}
 use Rattle.lines.specs.Printed.{printed}
 
--- the room for any output line
-abbrev pub answerRoom : ℕ
-answerRoom = 512
-
 -- the bytes are the output line for a line with this number
 pub record AnswerLine (number : ℕ) (line bytes : List ℕ) : Type 0 where
   pub verdict : Verdict

@@ -1,5 +1,6 @@
 -- What is printed for a line.
 use Prim.Native.Nat.{ℕ, zero, suc, _+_, _/_, _%_}
+use mathlib.Core.Bool.{Bool}
 use mathlib.Core.List.{List, [], _∷_, _++_}
 use lib.ListN.{length}
 use lib.Dec.{ltb}
@@ -25,10 +26,14 @@ decimalAt (suc k) n = choose (ltb n 10) (digit n ∷ []) (decimalAt k (n / 10) +
 unfoldable pub decimal : ℕ → List ℕ
 decimal n = decimalAt (suc n) n
 
--- each flag with its value in flag order: a space, the code, `=`, 0 or 1; the first flag is the highest bit of the state
+-- a space, the code, `=`, 0 or 1
+unfoldable pub flagValue : List ℕ → Bool → List ℕ
+flagValue code b = bytes " " ++ (code ++ (bytes "=" ++ bytes (choose b "1" "0")))
+
+-- each flag with its value in flag order; the first flag is the highest bit of the state
 unfoldable pub valued : List Flag → ℕ → List ℕ
 valued [] state = []
-valued (f ∷ u) state = bytes " " ++ (f .name ++ (bytes "=" ++ (bytes (choose (bit state (length u)) "1" "0") ++ valued u state)))
+valued (f ∷ u) state = flagValue (f .name) (bit state (length u)) ++ valued u state
 
 -- the flags of a guard that is read
 abbrev pub flagsOf : Reading → List Flag

@@ -1,0 +1,60 @@
+-- The answer to a line is put together as it is printed.
+use Prim.Native.Nat.{ℕ, _+_, _*_, _≤_, _<_}
+use native.Mathlib.Omega.{arith}
+use mathlib.Core.Path.{_≡_, refl, sym, ap, subst, _∙_}
+use mathlib.Core.List.{List, [], _∷_, _++_}
+use lib.ListN.{length, take, drop}
+use Rattle.notation.specs.Reading.{reading}
+use Rattle.notation.specs.Ceilings.{flagCeiling}
+use Rattle.notation.specs.declared.refusal.Refusal.{Refusal}
+use Rattle.verdict.specs.Check.{CheckSays}
+use Rattle.verdict.specs.Desk.{bytes}
+use Rattle.verdict.specs.declared.verdicts.Verdict.{Verdict}
+use Rattle.verdict.specs.declared.verdicts.Verdict.the-variants.{Covered, Gap, Undecided, Refused}
+use Rattle.lines.specs.Lines.{lineFeed}
+use Rattle.lines.specs.Question.{question, guardIn, QuestionSays}
+use Rattle.lines.specs.Printed.{decimal, valued, flagsOf, answered, printed}
+use Rattle.lines.specs.Put.{Puts, PutsIn, valueRoom, verdictRoom}
+use Rattle.lines.specs.Answer.{AnswerLine, Answers}
+use Rattle.lines.specs.declared.question.Question.{Question}
+use Rattle.lines.specs.declared.question.Question.the-variants.{Malformed, Asks}
+use Rattle.lines.proofs.Putting.{puts-then, puts-inside}
+
+-- ---- the verdict
+pub covered-put : (text : List ℕ) {a : List ℕ} {p : ℕ} {b : List ℕ} {r : ℕ} → Puts a p (bytes "covered") b r → PutsIn verdictRoom a p (answered text Covered) b r
+unfolding answered bytes
+covered-put text f = record { puts = f; within = omega (arith, f .next) }
+
+pub undecided-put : (text : List ℕ) {a : List ℕ} {p : ℕ} {b : List ℕ} {r : ℕ} → Puts a p (bytes "undecided") b r → PutsIn verdictRoom a p (answered text Undecided) b r
+unfolding answered bytes
+undecided-put text f = record { puts = f; within = omega (arith, f .next) }
+
+pub gap-put : (text : List ℕ) (state : ℕ) {a : List ℕ} {p : ℕ} {b : List ℕ} {q : ℕ} {c : List ℕ} {r : ℕ} → Puts a p (bytes "gap") b q
+    → PutsIn (valueRoom * flagCeiling) b q (valued (flagsOf (reading text)) state) c r → PutsIn verdictRoom a p (answered text (Gap state)) c r
+unfolding answered bytes
+gap-put text state f g = record { puts = puts-then f (g .puts); within = omega (arith, f .next, g .within) }
+
+pub refusal-put : (text : List ℕ) (x : Refusal) {a : List ℕ} {p : ℕ} {b : List ℕ} {q : ℕ} {c : List ℕ} {s : ℕ} {d : List ℕ} {t : ℕ} {e : List ℕ} {r : ℕ}
+    → Puts a p (bytes "refused ") b q → Puts b q (decimal (x .number)) c s → Puts c s (bytes " ") d t → Puts d t (decimal (x .place)) e r → r ≤ p + verdictRoom
+    → PutsIn verdictRoom a p (answered text (Refused x)) e r
+unfolding answered
+refusal-put text x f g h i l = record { puts = puts-then f (puts-then g (puts-then h i)); within = l }
+
+-- ---- the whole line
+pub line-put : (number : ℕ) (text : List ℕ) (v : Verdict) {a : List ℕ} {p : ℕ} {b : List ℕ} {q : ℕ} {c : List ℕ} {s : ℕ} {d : List ℕ} {t : ℕ} {e : List ℕ} {r : ℕ}
+    → Puts a p (decimal number) b q → Puts b q (bytes " ") c s → Puts c s (answered text v) d t → Puts d t (lineFeed ∷ []) e r → Puts a p (printed number text v) e r
+unfolding printed
+line-put number text v f g h i = puts-then f (puts-then g (puts-then h i))
+
+-- what is put for a question is the answer to the line that asks it
+pub answers : (number : ℕ) (line : List ℕ) (q : Question) (v : Verdict) (before room : List ℕ) (r : ℕ) → q ≡ question line → QuestionSays line q v
+    → Puts before 0 (printed number (guardIn line q) v) room r → Answers number line room r
+answers number line q v before room r e s p =
+    record {
+      inside = puts-inside (omega arith) p;
+      answer = record {
+        verdict = v;
+        says = subst (λ (x : Question). QuestionSays line x v) e s;
+        text = p .written ∙ ap (λ (x : Question). printed number (guardIn line x) v) e;
+      };
+    }
