@@ -1,9 +1,11 @@
 -- The answer to a line is put together as it is printed.
-use Prim.Native.Nat.{ℕ, _+_, _*_, _≤_, _<_}
+use Prim.Native.Nat.{ℕ, _+_, _*_, _-_, _≤_}
 use native.Mathlib.Omega.{arith}
-use mathlib.Core.Path.{_≡_, refl, sym, ap, subst, _∙_}
-use mathlib.Core.List.{List, [], _∷_, _++_}
-use lib.ListN.{length, take, drop}
+use mathlib.Core.Path.{_≡_, sym, ap, subst, _∙_}
+use mathlib.Core.List.{List, [], _∷_}
+use lib.ListN.{length, drop, length-drop}
+use lib.Seq.{take-all}
+use Rattle.notation.specs.Cut.{part}
 use Rattle.notation.specs.Reading.{reading}
 use Rattle.notation.specs.Ceilings.{flagCeiling}
 use Rattle.notation.specs.declared.refusal.Refusal.{Refusal}
@@ -15,9 +17,9 @@ use Rattle.lines.specs.Lines.{lineFeed}
 use Rattle.lines.specs.Question.{question, guardIn, QuestionSays}
 use Rattle.lines.specs.Printed.{decimal, valued, flagsOf, answered, printed}
 use Rattle.lines.specs.Put.{Puts, PutsIn, valueRoom, verdictRoom}
-use Rattle.lines.specs.Answer.{AnswerLine, Answers}
+use Rattle.lines.specs.Answer.{Answers}
 use Rattle.lines.specs.declared.question.Question.{Question}
-use Rattle.lines.specs.declared.question.Question.the-variants.{Malformed, Asks}
+use Rattle.lines.specs.declared.question.Question.the-variants.{Asks}
 use Rattle.lines.proofs.Putting.{puts-then, puts-inside}
 
 -- ---- the verdict
@@ -40,6 +42,10 @@ pub refusal-put : (text : List ℕ) (x : Refusal) {a : List ℕ} {p : ℕ} {b : 
 unfolding answered
 refusal-put text x f g h i l = record { puts = puts-then f (puts-then g (puts-then h i)); within = l }
 
+-- what is put for a verdict is put for one equal to it
+pub verdict-as : (text : List ℕ) {v w : Verdict} → v ≡ w → {a : List ℕ} {p : ℕ} {b : List ℕ} {r : ℕ} → PutsIn verdictRoom a p (answered text w) b r → PutsIn verdictRoom a p (answered text v) b r
+verdict-as text e {a} {p} {b} {r} f = subst (λ (x : Verdict). PutsIn verdictRoom a p (answered text x) b r) (sym e) f
+
 -- ---- the whole line
 pub line-put : (number : ℕ) (text : List ℕ) (v : Verdict) {a : List ℕ} {p : ℕ} {b : List ℕ} {q : ℕ} {c : List ℕ} {s : ℕ} {d : List ℕ} {t : ℕ} {e : List ℕ} {r : ℕ}
     → Puts a p (decimal number) b q → Puts b q (bytes " ") c s → Puts c s (answered text v) d t → Puts d t (lineFeed ∷ []) e r → Puts a p (printed number text v) e r
@@ -58,3 +64,12 @@ answers number line q v before room r e s p =
         text = p .written ∙ ap (λ (x : Question). printed number (guardIn line x) v) e;
       };
     }
+
+-- the guard is what is left of the line
+pub answers-guard : (number : ℕ) (line : List ℕ) (depth start : ℕ) (v : Verdict) (before room : List ℕ) (r : ℕ) → Asks depth start ≡ question line
+    → CheckSays (part start (length line) line) depth v → Puts before 0 (printed number (part start (length line) line) v) room r → Answers number line room r
+answers-guard number line depth start v before room r e s p =
+    let rest : part start (length line) line ≡ drop start line = take-all (length line - start) (drop start line) (rw length-drop (omega arith)) in
+    answers number line (Asks depth start) v before room r e
+    (subst (λ (g : List ℕ). CheckSays g depth v) rest s)
+    (subst (λ (g : List ℕ). Puts before 0 (printed number g v) room r) rest p)

@@ -81,8 +81,8 @@ module _ (input : List ℕ) where
         later = omega arith;
         inside = omega arith;
         cut =
-          p ∙ ap (before (part start i input)) (lines-past i (omega arith)) ∙ before-none (part start i input) (omega arith)
-          ∙ ap (λ (ls : List (List ℕ)). part start i input ∷ ls) (sym (lines-past (i + 1) (omega arith)));
+            p ∙ ap (before (part start i input)) (lines-past i (omega arith)) ∙ before-none (part start i input) (omega arith)
+            ∙ ap (λ (ls : List (List ℕ)). part start i input ∷ ls) (sym (lines-past (i + 1) (omega arith)));
       }
 
   -- no second end

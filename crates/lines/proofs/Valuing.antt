@@ -84,12 +84,12 @@ module _ (text codes : List ℕ) (n state : ℕ) (out : List ℕ) (at : ℕ) whe
         most = omega arith;
         room = omega (arith, w .room, p .next);
         whole =
-          ap (λ (l : List ℕ). l ++ valued (drop (i + 1) (flagsIn text codes n)) state) (p .written)
-          ∙ append-assoc (take next now) one (valued (drop (i + 1) (flagsIn text codes n)) state)
-          ∙ ap (λ (u : List Flag). take next now ++ (one ++ valued u state)) (rest .2)
-          ∙ ap (λ (v : Bool). take next now ++ (flagValue (codeIn text codes i) v ++ valued (rest .0) state)) (e ∙ ap (bit state) (sym (rest .3)))
-          ∙ ap (λ (u : List Flag). take next now ++ valued u state) (sym (rest .1))
-          ∙ w .whole;
+            ap (λ (l : List ℕ). l ++ valued (drop (i + 1) (flagsIn text codes n)) state) (p .written)
+            ∙ append-assoc (take next now) one (valued (drop (i + 1) (flagsIn text codes n)) state)
+            ∙ ap (λ (u : List Flag). take next now ++ (one ++ valued u state)) (rest .2)
+            ∙ ap (λ (v : Bool). take next now ++ (flagValue (codeIn text codes i) v ++ valued (rest .0) state)) (e ∙ ap (bit state) (sym (rest .3)))
+            ∙ ap (λ (u : List Flag). take next now ++ valued u state) (sym (rest .1))
+            ∙ w .whole;
         long = p .long ∙ w .long;
       }
 

@@ -19,7 +19,8 @@ put-decimal-requires c κs =
     let put-all· = c .before .before .before .put-all in
     let pre· = c .before .before .before .before .before .before .before .pre in
     let args· = c .before .before .before .before .before .before .before .args in
-    omega (arith, put-all· .ensures .next, put-all· .ensures .long, pre·, number-short (args· .refusal .number) (omega arith))
+    let good· = c .before .before .before .before .before .before .before .good in
+    omega (arith, put-all· .ensures .next, put-all· .ensures .long, pre·, number-short (args· .refusal .number) (omega (arith, good· .1 .1 .0)))
 
 put-requires : tie.Need-put-requires
 put-requires c κs =
@@ -27,7 +28,8 @@ put-requires c κs =
     let put-decimal· = c .before .before .before .put-decimal in
     let pre· = c .before .before .before .before .before .before .before .before .before .before .before .pre in
     let args· = c .before .before .before .before .before .before .before .before .before .before .before .args in
-    omega (arith, put-all· .ensures .next, put-all· .ensures .long, put-decimal· .ensures .next, put-decimal· .ensures .long, pre·, number-short (args· .refusal .number) (omega arith))
+    let good· = c .before .before .before .before .before .before .before .before .before .before .before .good in
+    omega (arith, put-all· .ensures .next, put-all· .ensures .long, put-decimal· .ensures .next, put-decimal· .ensures .long, pre·, number-short (args· .refusal .number) (omega (arith, good· .1 .1 .0)))
 
 put-decimal-requires-2 : tie.Need-put-decimal-requires-2
 put-decimal-requires-2 c κs =
@@ -36,7 +38,8 @@ put-decimal-requires-2 c κs =
     let put· = c .before .before .before .put in
     let pre· = c .before .before .before .before .before .before .before .before .before .before .before .before .before .before .before .pre in
     let args· = c .before .before .before .before .before .before .before .before .before .before .before .before .before .before .before .args in
-    omega (arith, put-all· .ensures .next, put-all· .ensures .long, put-decimal· .ensures .next, put-decimal· .ensures .long, put· .ensures .next, put· .ensures .long, pre·, number-short (args· .refusal .number) (omega arith), number-short (args· .refusal .place) (omega arith))
+    let good· = c .before .before .before .before .before .before .before .before .before .before .before .before .before .before .before .good in
+    omega (arith, put-all· .ensures .next, put-all· .ensures .long, put-decimal· .ensures .next, put-decimal· .ensures .long, put· .ensures .next, put· .ensures .long, pre·, number-short (args· .refusal .number) (omega (arith, good· .1 .1 .0)), number-short (args· .refusal .place) (omega (arith, good· .1 .1 .0)))
 
 same-length : tie.Need-same-length
 same-length c = search needs
@@ -49,7 +52,8 @@ returns c =
     let put-decimal· = c .before .before .before .before .before .before .before .before .before .before .put-decimal in
     let put· = c .before .before .before .before .before .before .put in
     let put-decimal2· = c .before .before .put-decimal2 in
-    refusal-put [] (args· .refusal) (put-all· .ensures) (put-decimal· .ensures) (put· .ensures) (put-decimal2· .ensures) (omega (arith, put-all· .ensures .next, put-decimal· .ensures .next, put· .ensures .next, put-decimal2· .ensures .next, number-short (args· .refusal .number) (omega arith), number-short (args· .refusal .place) (omega arith)))
+    let good· = c .before .before .before .before .before .before .before .before .before .before .before .before .before .before .before .before .before .before .good in
+    refusal-put [] (args· .refusal) (put-all· .ensures) (put-decimal· .ensures) (put· .ensures) (put-decimal2· .ensures) (omega (arith, put-all· .ensures .next, put-decimal· .ensures .next, put· .ensures .next, put-decimal2· .ensures .next, number-short (args· .refusal .number) (omega (arith, good· .1 .1 .0)), number-short (args· .refusal .place) (omega (arith, good· .1 .1 .0))))
 
 pub put-refusal-spec : {M : Type 1} → statement M
 put-refusal-spec =

@@ -1,10 +1,7 @@
 -- `lines::answer::put_verdict` meets its contract: by the four cases.
-use mathlib.Core.Path.{subst, sym}
 use Rattle.verdict.specs.Desk.{bytes}
-use Rattle.verdict.specs.declared.verdicts.Verdict.{Verdict}
 use Rattle.lines.specs.Printed.{answered}
-use Rattle.lines.specs.Put.{PutsIn, verdictRoom}
-use Rattle.lines.proofs.Answering.{covered-put, undecided-put}
+use Rattle.lines.proofs.Answering.{covered-put, undecided-put, verdict-as}
 use borrow.Author.Needs.{needs}
 use Rattle.lines.proofs.answer.put_verdict.Statement.{statement}
 use Rattle.lines.proofs.answer.put_verdict.Tie as tie
@@ -48,7 +45,7 @@ returns c =
     let args· = c .before .before .before .before .before .before .before .before .before .args in
     let enum-told· = c .before .before .before .before .before .enum-told in
     let put-all· = c .before .before .put-all in
-    subst (λ (v : Verdict). PutsIn verdictRoom (args· .out .now) (args· .at) (answered (args· .text .now) v) _ _) (sym (enum-told· .given .1)) (covered-put (args· .text .now) (put-all· .ensures))
+    verdict-as (args· .text .now) (enum-told· .given .1) (covered-put (args· .text .now) (put-all· .ensures))
 
 same-length-2 : tie.Need-same-length-2
 same-length-2 c = search needs
@@ -58,7 +55,7 @@ returns-2 c =
     let args· = c .before .before .before .before .before .before .before .before .before .args in
     let verdict· = c .before .before .before .before .before .verdict in
     let put-gap· = c .before .before .put-gap in
-    subst (λ (v : Verdict). PutsIn verdictRoom (args· .out .now) (args· .at) (answered (args· .text .now) v) _ _) (sym (verdict· .given .1)) (put-gap· .ensures)
+    verdict-as (args· .text .now) (verdict· .given .1) (put-gap· .ensures)
 
 same-length-3 : tie.Need-same-length-3
 same-length-3 c = search needs
@@ -69,7 +66,7 @@ returns-3 c =
     let args· = c .before .before .before .before .before .before .before .before .before .args in
     let enum-told2· = c .before .before .before .before .before .enum-told2 in
     let put-all2· = c .before .before .put-all2 in
-    subst (λ (v : Verdict). PutsIn verdictRoom (args· .out .now) (args· .at) (answered (args· .text .now) v) _ _) (sym (enum-told2· .given .1)) (undecided-put (args· .text .now) (put-all2· .ensures))
+    verdict-as (args· .text .now) (enum-told2· .given .1) (undecided-put (args· .text .now) (put-all2· .ensures))
 
 same-length-4 : tie.Need-same-length-4
 same-length-4 c = search needs
@@ -80,7 +77,7 @@ returns-4 c =
     let args· = c .before .before .before .before .before .before .before .before .before .args in
     let verdict2· = c .before .before .before .before .before .verdict2 in
     let put-refusal· = c .before .before .put-refusal in
-    subst (λ (v : Verdict). PutsIn verdictRoom (args· .out .now) (args· .at) (answered (args· .text .now) v) _ _) (sym (verdict2· .given .1)) (put-refusal· .ensures)
+    verdict-as (args· .text .now) (verdict2· .given .1) (put-refusal· .ensures)
 
 pub put-verdict-spec : {M : Type 1} → statement M
 put-verdict-spec =

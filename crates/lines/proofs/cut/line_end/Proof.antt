@@ -42,7 +42,6 @@ loop-again c =
     let loop-test· = c .before .before .loop-test in
     let args· = c .before .before .before .before .args in
     let if1· = c .if1 in
-    
     (omega (arith, loop· .inv .0), omega (arith, loop-test· .taken), passed-more (args· .input .now) (args· .start) (loop· .at) (loop· .inv .0) (loop-test· .taken) (if1· .left) (loop· .inv .2))
 
 returns-2 : tie.Need-returns-2 Inv-loop μ-loop

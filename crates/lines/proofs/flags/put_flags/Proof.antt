@@ -31,7 +31,6 @@ put-values-requires c κs =
     let parse· = c .before .before .before .before .before .before .before .parse in
     let parsed· = c .before .before .before .parsed in
     let pre· = c .before .before .before .before .before .before .before .before .before .before .before .before .pre in
-    
     let text = args· .text .now in
     let C = parse· .last .1 .0 in
     let O = parse· .last .1 .1 .0 in
@@ -43,7 +42,6 @@ returns c =
     let args· = c .before .before .before .before .before .before .before .before .before .args in
     let parse· = c .before .before .before .before .parse in
     let enum-told· = c .enum-told in
-    
     let text = args· .text .now in
     let C = parse· .last .1 .0 in
     let O = parse· .last .1 .1 .0 in
@@ -58,7 +56,6 @@ returns-2 c =
     let parse· = c .before .before .before .before .before .before .before .before .before .before .parse in
     let parsed· = c .before .before .before .before .before .before .parsed in
     let put-values· = c .before .before .put-values in
-    
     let text = args· .text .now in
     let C = parse· .last .1 .0 in
     let O = parse· .last .1 .1 .0 in

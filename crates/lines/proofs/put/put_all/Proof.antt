@@ -45,7 +45,6 @@ loop-again c =
     let args· = c .before .before .before .args in
     let loop· = c .before .before .loop in
     let pre· = c .before .before .before .pre in
-    
     (omega (arith, loop-test· .taken), puts-more (args· .out .now) (args· .at) (args· .bytes .now) (loop· .out) (loop· .i) (loop-test· .taken) (omega (arith, loop· .inv .1 .long, loop-test· .taken, pre·)) (loop· .inv .1))
 
 add-result : tie.Need-add-result Inv-loop μ-loop

@@ -102,7 +102,6 @@ returns-5 c =
     let if3· = c .before .before .before .if3 in
     let byte-at3· = c .before .byte-at3 in
     let if4· = c .if4 in
-    
     let high = digit-value· .ensures in
     let low = digit-value2· .ensures in
     ap (λ (d : ℕ). Asks (10 * d + digit-value2· .result) 3) high ∙ ap (λ (d : ℕ). Asks (10 * digitValue (byte-at· .result) + d) 3) low
