@@ -2,14 +2,17 @@
 use lines::answer::ANSWER;
 use lines::answer::answer_line;
 use lines::cut::line_end;
+ghost use Rattle.lines.specs.Lines.{LineAt};
 
 // Bytes of an input.
 const INPUT: usize = 65536;
 
-// Writes the answer to a line, and says whether all of it was taken.
-fn answer(number: u64, line: &[u8]) -> bool {
+// Writes the answer to a line of the input, and says whether all of it was taken.
+fn answer(input: &[u8], number: u64, start: usize, end: usize) -> bool
+    requires { ⌜ LineAt (now input) number start end ⌝ }
+{
     let mut out = [0u8; ANSWER];
-    let len = answer_line(number, line, &mut out);
+    let len = answer_line(number, &input[start..end], &mut out);
     io::write_all(1, &out[0..len])
 }
 
@@ -20,7 +23,7 @@ fn answer_all(input: &[u8]) {
     while start < input.len() {
         let end = line_end(input, start);
         number += 1;
-        if !answer(number, &input[start..end]) {
+        if !answer(input, number, start, end) {
             return;
         }
         start = end + 1;

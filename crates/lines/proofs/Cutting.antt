@@ -3,14 +3,14 @@ use Prim.Native.Nat.{ℕ, zero, suc, _+_, _-_, _≤_, _<_}
 use native.Mathlib.Omega.{arith}
 use native.Mathlib.Numerals.{add-one}
 use mathlib.Core.Path.{_≡_, refl, sym, ap, _∙_}
-use mathlib.Core.List.{List, [], _∷_, _++_}
-use lib.ListN.{length, take, drop, getD, length-drop, drop-of-length-le}
+use mathlib.Core.List.{List, [], _∷_, _++_, append-assoc}
+use lib.ListN.{length, drop, getD, length-append, length-drop, drop-of-length-le}
 use lib.Seq.{drop-cons, take-suc, getD-drop, length-take-le}
 use lib.Dec.{eqb}
 use borrow.Author.Tests.{eq-eqb, ne-eqb}
 use Rattle.notation.specs.Cut.{part}
 use Rattle.notation.proofs.Coding.{part-length}
-use Rattle.lines.specs.Lines.{lineFeed, onto, lines, LineEnd, Through, ended, line}
+use Rattle.lines.specs.Lines.{lineFeed, onto, lines, LineEnd, Through, ended, line, LinesBefore, LineAt}
 
 -- bytes in front of the first line
 unfoldable pub before : List ℕ → List (List ℕ) → List (List ℕ)
@@ -96,6 +96,31 @@ module _ (input : List ℕ) where
   pub through-lines : {start : ℕ} {ls : List (List ℕ)} → Through input start ls → ls ≡ lines (drop start input)
   through-lines {start} (ended h) = sym (lines-past start h)
   through-lines {start} (line {r} {ls} h e t) = ap (λ (x : List (List ℕ)). part start r input ∷ x) (through-lines t) ∙ sym (e .cut)
+
+  -- ---- the number of a line
+  pub before-first : LinesBefore input 0 0
+  before-first = record { passed = []; count = refl; whole = refl }
+
+  pub before-next : (n start r : ℕ) → LinesBefore input n start → LineEnd input start r → LinesBefore input (n + 1) (r + 1)
+  before-next n start r b e =
+      record {
+        passed = b .passed ++ (part start r input ∷ []);
+        count = length-append (b .passed) (part start r input ∷ []) ∙ ap (λ (m : ℕ). m + 1) (b .count);
+        whole =
+            b .whole ∙ ap (λ (ls : List (List ℕ)). b .passed ++ ls) (e .cut)
+            ∙ sym (append-assoc (b .passed) (part start r input ∷ []) (lines (drop (r + 1) input)));
+      }
+
+  pub numbered : (n start r : ℕ) → LinesBefore input n start → LineEnd input start r → LineAt input (n + 1) start r
+  numbered n start r b e =
+      record {
+        passed = b .passed;
+        left = lines (drop (r + 1) input);
+        count = ap (λ (m : ℕ). m + 1) (b .count);
+        whole = b .whole ∙ ap (λ (ls : List (List ℕ)). b .passed ++ ls) (e .cut);
+        later = e .later;
+        inside = e .inside;
+      }
 
 -- cutting an input from its start goes through exactly its lines
 pub through-input : (input : List ℕ) (ls : List (List ℕ)) → Through input 0 ls → ls ≡ lines input
