@@ -1,5 +1,5 @@
 -- The answer to a line is put together as it is printed.
-use Prim.Native.Nat.{ℕ, _+_, _*_, _-_, _≤_}
+use Prim.Native.Nat.{ℕ, _*_, _-_}
 use native.Mathlib.Omega.{arith}
 use mathlib.Core.Path.{_≡_, sym, ap, subst, _∙_}
 use mathlib.Core.List.{List, [], _∷_}
@@ -16,7 +16,7 @@ use Rattle.verdict.specs.declared.verdicts.Verdict.the-variants.{Covered, Gap, 
 use Rattle.lines.specs.Lines.{lineFeed}
 use Rattle.lines.specs.Question.{question, guardIn, QuestionSays}
 use Rattle.lines.specs.Printed.{decimal, valued, flagsOf, answered, printed}
-use Rattle.lines.specs.Put.{Puts, PutsIn, valueRoom, verdictRoom}
+use Rattle.lines.specs.Put.{Puts, PutsIn, numberRoom, valueRoom, verdictRoom}
 use Rattle.lines.specs.Answer.{Answers}
 use Rattle.lines.specs.declared.question.Question.{Question}
 use Rattle.lines.specs.declared.question.Question.the-variants.{Asks}
@@ -37,10 +37,14 @@ unfolding answered bytes
 gap-put text state f g = record { puts = puts-then f (g .puts); within = omega (arith, f .next, g .within) }
 
 pub refusal-put : (text : List ℕ) (x : Refusal) {a : List ℕ} {p : ℕ} {b : List ℕ} {q : ℕ} {c : List ℕ} {s : ℕ} {d : List ℕ} {t : ℕ} {e : List ℕ} {r : ℕ}
-    → Puts a p (bytes "refused ") b q → Puts b q (decimal (x .number)) c s → Puts c s (bytes " ") d t → Puts d t (decimal (x .place)) e r → r ≤ p + verdictRoom
+    → Puts a p (bytes "refused ") b q → PutsIn numberRoom b q (decimal (x .number)) c s → Puts c s (bytes " ") d t → PutsIn numberRoom d t (decimal (x .place)) e r
     → PutsIn verdictRoom a p (answered text (Refused x)) e r
-unfolding answered
-refusal-put text x f g h i l = record { puts = puts-then f (puts-then g (puts-then h i)); within = l }
+unfolding answered bytes
+refusal-put text x f g h i =
+    record {
+      puts = puts-then f (puts-then (g .puts) (puts-then h (i .puts)));
+      within = omega (arith, f .next, g .within, h .next, i .within);
+    }
 
 -- what is put for a verdict is put for one equal to it
 pub verdict-as : (text : List ℕ) {v w : Verdict} → v ≡ w → {a : List ℕ} {p : ℕ} {b : List ℕ} {r : ℕ} → PutsIn verdictRoom a p (answered text w) b r → PutsIn verdictRoom a p (answered text v) b r
@@ -48,9 +52,9 @@ verdict-as text e {a} {p} {b} {r} f = subst (λ (x : Verdict). PutsIn verdictRoo
 
 -- ---- the whole line
 pub line-put : (number : ℕ) (text : List ℕ) (v : Verdict) {a : List ℕ} {p : ℕ} {b : List ℕ} {q : ℕ} {c : List ℕ} {s : ℕ} {d : List ℕ} {t : ℕ} {e : List ℕ} {r : ℕ}
-    → Puts a p (decimal number) b q → Puts b q (bytes " ") c s → Puts c s (answered text v) d t → Puts d t (lineFeed ∷ []) e r → Puts a p (printed number text v) e r
+    → PutsIn numberRoom a p (decimal number) b q → Puts b q (bytes " ") c s → PutsIn verdictRoom c s (answered text v) d t → Puts d t (lineFeed ∷ []) e r → Puts a p (printed number text v) e r
 unfolding printed
-line-put number text v f g h i = puts-then f (puts-then g (puts-then h i))
+line-put number text v f g h i = puts-then (f .puts) (puts-then g (puts-then (h .puts) i))
 
 -- what is put for a question is the answer to the line that asks it
 pub answers : (number : ℕ) (line : List ℕ) (q : Question) (v : Verdict) (before room : List ℕ) (r : ℕ) → q ≡ question line → QuestionSays line q v

@@ -2,7 +2,7 @@
 use crate::flags::put_flags;
 use crate::put::put;
 use crate::put::put_all;
-use crate::put::put_decimal;
+use crate::put::put_number;
 use crate::question::Question;
 use crate::question::question_of;
 use notation::refusal::Refusal;
@@ -24,9 +24,9 @@ fn put_refusal(out: &mut [u8], at: usize, refusal: Refusal) -> usize
     ensures { λ r. ⌜ PutsIn verdictRoom (now (out .entry)) at (answered [] (Refused refusal)) (now (out .exit)) r ⌝ }
 {
     let number = put_all(out, at, b"refused ");
-    let space = put_decimal(out, number, refusal.number as u64);
+    let space = put_number(out, number, refusal.number as u64);
     let place = put(out, space, b' ');
-    put_decimal(out, place, refusal.place as u64)
+    put_number(out, place, refusal.place as u64)
 }
 
 fn put_gap(out: &mut [u8], at: usize, text: &[u8], state: u64) -> usize
@@ -54,7 +54,7 @@ fn put_line(out: &mut [u8], number: u64, text: &[u8], verdict: Verdict) -> usize
     requires { ⌜ answerRoom ≤ length (now out) ⌝ }
     ensures { λ r. ⌜ Puts (now (out .entry)) 0 (printed number (now (text .entry)) verdict) (now (out .exit)) r ⌝ }
 {
-    let space = put_decimal(out, 0, number);
+    let space = put_number(out, 0, number);
     let answer = put(out, space, b' ');
     let end = put_verdict(out, answer, text, verdict);
     put(out, end, b'\n')

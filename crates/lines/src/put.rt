@@ -2,7 +2,7 @@
 ghost use Prim.Native.Nat.{_+_, _≤_, _<_};
 ghost use mathlib.Core.List.{[], _∷_};
 ghost use lib.ListN.{length};
-ghost use Rattle.lines.specs.Put.{Puts};
+ghost use Rattle.lines.specs.Put.{Puts, PutsIn, numberRoom};
 ghost use Rattle.lines.specs.Printed.{decimal};
 
 // One byte.
@@ -28,7 +28,7 @@ pub fn put_all(out: &mut [u8], at: usize, bytes: &[u8]) -> usize
 }
 
 // A number in decimal digits, without a leading zero.
-pub fn put_decimal(out: &mut [u8], at: usize, n: u64) -> usize
+fn put_decimal(out: &mut [u8], at: usize, n: u64) -> usize
     requires { ⌜ at + length (decimal n) ≤ length (now out) ⌝ }
     ensures { λ r. ⌜ Puts (now (out .entry)) at (decimal n) (now (out .exit)) r ⌝ }
 {
@@ -37,4 +37,12 @@ pub fn put_decimal(out: &mut [u8], at: usize, n: u64) -> usize
     }
     let next = put_decimal(out, at, n / 10);
     put(out, next, b'0' + (n % 10) as u8)
+}
+
+// The same, in the room that any number needs.
+pub fn put_number(out: &mut [u8], at: usize, n: u64) -> usize
+    requires { ⌜ at + numberRoom ≤ length (now out) ⌝ }
+    ensures { λ r. ⌜ PutsIn numberRoom (now (out .entry)) at (decimal n) (now (out .exit)) r ⌝ }
+{
+    put_decimal(out, at, n)
 }

@@ -1,8 +1,6 @@
 -- `lines::answer::put_refusal` meets its contract: the word, the number, a space and the place.
-use native.Mathlib.Omega.{arith}
 use mathlib.Core.List.{[]}
 use Rattle.verdict.specs.Desk.{bytes}
-use Rattle.lines.proofs.Decimal.{number-short}
 use Rattle.lines.proofs.Answering.{refusal-put}
 use borrow.Author.Needs.{needs}
 use Rattle.lines.proofs.answer.put_refusal.Statement.{statement}
@@ -14,32 +12,14 @@ slice-aggregate-put-all c = search needs
 put-all-requires : tie.Need-put-all-requires
 put-all-requires c κs = search needs
 
-put-decimal-requires : tie.Need-put-decimal-requires
-put-decimal-requires c κs =
-    let put-all· = c .before .before .before .put-all in
-    let pre· = c .before .before .before .before .before .before .before .pre in
-    let args· = c .before .before .before .before .before .before .before .args in
-    let good· = c .before .before .before .before .before .before .before .good in
-    omega (arith, put-all· .ensures .next, put-all· .ensures .long, pre·, number-short (args· .refusal .number) (omega (arith, good· .1 .1 .0)))
+put-number-requires : tie.Need-put-number-requires
+put-number-requires c κs = search needs
 
 put-requires : tie.Need-put-requires
-put-requires c κs =
-    let put-all· = c .before .before .before .before .before .before .before .put-all in
-    let put-decimal· = c .before .before .before .put-decimal in
-    let pre· = c .before .before .before .before .before .before .before .before .before .before .before .pre in
-    let args· = c .before .before .before .before .before .before .before .before .before .before .before .args in
-    let good· = c .before .before .before .before .before .before .before .before .before .before .before .good in
-    omega (arith, put-all· .ensures .next, put-all· .ensures .long, put-decimal· .ensures .next, put-decimal· .ensures .long, pre·, number-short (args· .refusal .number) (omega (arith, good· .1 .1 .0)))
+put-requires c κs = search needs
 
-put-decimal-requires-2 : tie.Need-put-decimal-requires-2
-put-decimal-requires-2 c κs =
-    let put-all· = c .before .before .before .before .before .before .before .before .before .before .before .put-all in
-    let put-decimal· = c .before .before .before .before .before .before .before .put-decimal in
-    let put· = c .before .before .before .put in
-    let pre· = c .before .before .before .before .before .before .before .before .before .before .before .before .before .before .before .pre in
-    let args· = c .before .before .before .before .before .before .before .before .before .before .before .before .before .before .before .args in
-    let good· = c .before .before .before .before .before .before .before .before .before .before .before .before .before .before .before .good in
-    omega (arith, put-all· .ensures .next, put-all· .ensures .long, put-decimal· .ensures .next, put-decimal· .ensures .long, put· .ensures .next, put· .ensures .long, pre·, number-short (args· .refusal .number) (omega (arith, good· .1 .1 .0)), number-short (args· .refusal .place) (omega (arith, good· .1 .1 .0)))
+put-number-requires-2 : tie.Need-put-number-requires-2
+put-number-requires-2 c κs = search needs
 
 same-length : tie.Need-same-length
 same-length c = search needs
@@ -49,11 +29,10 @@ unfolding bytes
 returns c =
     let args· = c .before .before .before .before .before .before .before .before .before .before .before .before .before .before .before .before .before .before .args in
     let put-all· = c .before .before .before .before .before .before .before .before .before .before .before .before .before .before .put-all in
-    let put-decimal· = c .before .before .before .before .before .before .before .before .before .before .put-decimal in
+    let put-number· = c .before .before .before .before .before .before .before .before .before .before .put-number in
     let put· = c .before .before .before .before .before .before .put in
-    let put-decimal2· = c .before .before .put-decimal2 in
-    let good· = c .before .before .before .before .before .before .before .before .before .before .before .before .before .before .before .before .before .before .good in
-    refusal-put [] (args· .refusal) (put-all· .ensures) (put-decimal· .ensures) (put· .ensures) (put-decimal2· .ensures) (omega (arith, put-all· .ensures .next, put-decimal· .ensures .next, put· .ensures .next, put-decimal2· .ensures .next, number-short (args· .refusal .number) (omega (arith, good· .1 .1 .0)), number-short (args· .refusal .place) (omega (arith, good· .1 .1 .0))))
+    let put-number2· = c .before .before .put-number2 in
+    refusal-put [] (args· .refusal) (put-all· .ensures) (put-number· .ensures) (put· .ensures) (put-number2· .ensures)
 
 pub put-refusal-spec : {M : Type 1} → statement M
 put-refusal-spec =
@@ -61,8 +40,8 @@ put-refusal-spec =
     (tie.spec
     slice-aggregate-put-all
     put-all-requires
-    put-decimal-requires
+    put-number-requires
     put-requires
-    put-decimal-requires-2
+    put-number-requires-2
     same-length
     returns)

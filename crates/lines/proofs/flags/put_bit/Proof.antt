@@ -1,5 +1,5 @@
 -- `lines::flags::put_bit` meets its contract: one digit, by the value.
-use mathlib.Core.Path.{refl, sym, ap, _∙_}
+use mathlib.Core.Path.{refl, sym, ap}
 use mathlib.Core.Bool.{Bool}
 use Rattle.notation.specs.Tokens.{choose}
 use Rattle.verdict.specs.Desk.{bytes}

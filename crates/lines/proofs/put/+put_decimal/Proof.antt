@@ -1,10 +1,7 @@
 -- `lines::put::put_decimal` meets its contract: the tenth's digits, then the last one. The number falls.
-use Prim.Native.Nat.{ℕ, _+_, _/_, _%_, _<_}
+use Prim.Native.Nat.{ℕ, _<_}
 use native.Mathlib.Omega.{arith}
-use mathlib.Core.Path.{refl, sym, ap}
-use mathlib.Core.List.{List}
-use lib.ListN.{length, length-append}
-use Rattle.lines.specs.Printed.{digit, decimal}
+use mathlib.Core.Path.{refl, sym}
 use Rattle.lines.proofs.Putting.{puts-then, puts-as}
 use Rattle.lines.proofs.Decimal.{decimal-one, decimal-more, one-long, more-long}
 use borrow.Author.Needs.{needs}
