@@ -1,4 +1,3 @@
-pub mod Places
 pub mod Fitting
 pub mod Unique
 pub mod Apart

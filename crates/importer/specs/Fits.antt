@@ -3,6 +3,7 @@ use Prim.Native.Nat.{ℕ, _^_, _≤_, _<_}
 use Rattle.notation.specs.Ceilings.{textCeiling, codeCeiling, flagCeiling, connectiveCeiling}
 use Rattle.notation.specs.Triplets.{literalCeiling}
 use Rattle.notation.specs.declared.refusal.Refusal.{Refusal}
+use Rattle.reading.specs.Service.{lastRefusal}
 use Rattle.reading.specs.declared.parse.Guard as counted
 use Rattle.reading.specs.declared.parse.Parsed.{Parsed}
 use Rattle.reading.specs.declared.parse.Parsed.the-variants as parsed
@@ -16,10 +17,6 @@ use Rattle.listing.specs.declared.Listing.{Listing}
 use Rattle.listing.specs.declared.Listing.the-variants as listing
 use Rattle.verdict.specs.declared.verdicts.Verdict.{Verdict}
 use Rattle.verdict.specs.declared.verdicts.Verdict.the-variants as verdict
-
--- the last number of the table of refusals
-abbrev pub lastRefusal : ℕ
-lastRefusal = 12
 
 -- a number of the table, and a place within the longest text
 pub record RefusalFits (f : Refusal) : Type 0 where

@@ -20,6 +20,10 @@ use Rattle.reading.specs.declared.parse.Parsed.the-variants as parsed
 use Rattle.reading.specs.declared.name.Named.{Named}
 use Rattle.reading.specs.declared.name.Named.the-variants as named
 
+-- the last number of the table of refusals
+abbrev pub lastRefusal : ℕ
+lastRefusal = 12
+
 -- the refusal with this number at this place
 abbrev pub refusedWith : ℕ → ℕ → Parsed
 refusedWith k p = parsed.Refused (record { number = k; place = p })

@@ -1,0 +1,76 @@
+-- `covercheck::answer_all` is safe and ends, and asks for each line by its number: so many lines stand before the next one's start.
+use Prim.Native.Nat.{_+_, _-_, _≤_}
+use native.Mathlib.Omega.{arith}
+use lib.ListN.{length}
+use Rattle.lines.specs.Lines.{LinesBefore}
+use Rattle.lines.proofs.Cutting.{before-first, before-next, numbered}
+use borrow.Author.Needs.{needs}
+use Rattle.covercheck.proofs.answer_all.Statement.{statement}
+use Rattle.covercheck.proofs.answer_all.Tie as tie
+
+abbrev Inv-loop : tie.InvT-loop
+Inv-loop input start₀ number₀ start number = (number ≤ start) × (start ≤ length input + 1) × LinesBefore input number start
+
+abbrev μ-loop : tie.MeasureT-loop
+μ-loop input start₀ number₀ start number = length input + 1 - start
+
+loop-holds : tie.Need-loop-holds Inv-loop μ-loop
+loop-holds c =
+    let args· = c .before .args in
+    (omega arith, omega arith, before-first (args· .input .now))
+
+line-end-requires : tie.Need-line-end-requires Inv-loop μ-loop
+line-end-requires c κs =
+    let loop-test· = c .loop-test in
+    loop-test· .taken
+
+add-number : tie.Need-add-number Inv-loop μ-loop
+add-number c = search needs
+
+answer-requires : tie.Need-answer-requires Inv-loop μ-loop
+answer-requires c κs =
+    let args· = c .before .before .before .before .args in
+    let loop· = c .before .before .loop in
+    let line-end· = c .line-end in
+    numbered (args· .input .now) (loop· .number) (loop· .start) (line-end· .result) (loop· .inv .2) (line-end· .ensures)
+
+returns : tie.Need-returns Inv-loop μ-loop
+returns c = search needs
+
+add-start : tie.Need-add-start Inv-loop μ-loop
+add-start c = search needs
+
+loop-less : tie.Need-loop-less Inv-loop μ-loop
+loop-less c =
+    let line-end· = c .before .before .line-end in
+    let loop-test· = c .before .before .before .loop-test in
+    omega (arith, line-end· .ensures .later, loop-test· .taken)
+
+loop-again : tie.Need-loop-again Inv-loop μ-loop
+loop-again c =
+    let line-end· = c .before .before .line-end in
+    let loop· = c .before .before .before .before .loop in
+    let args· = c .before .before .before .before .before .before .args in (
+      omega (arith, line-end· .ensures .later, loop· .inv .0),
+      omega (arith, line-end· .ensures .inside),
+      before-next (args· .input .now) (loop· .number) (loop· .start) (line-end· .result) (loop· .inv .2) (line-end· .ensures),
+    )
+
+returns-2 : tie.Need-returns-2 Inv-loop μ-loop
+returns-2 c = search needs
+
+pub answer-all-spec : {M : Type 1} → statement M
+answer-all-spec =
+    tie.close
+    (tie.spec
+    Inv-loop
+    μ-loop
+    loop-holds
+    line-end-requires
+    add-number
+    answer-requires
+    returns
+    add-start
+    loop-less
+    loop-again
+    returns-2)

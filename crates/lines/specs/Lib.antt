@@ -1,0 +1,5 @@
+pub mod Lines
+pub mod Question
+pub mod Printed
+pub mod Put
+pub mod Answer
