@@ -9,7 +9,7 @@ use Rattle.covercheck.proofs.answer_all.Statement.{statement}
 use Rattle.covercheck.proofs.answer_all.Tie as tie
 
 abbrev Inv-loop : tie.InvT-loop
-Inv-loop input start₀ number₀ start number = (number ≤ start) × (start ≤ length input + 1) × LinesBefore input number start
+Inv-loop input start₀ number₀ start number = LinesBefore input number start × (number ≤ start) × (start ≤ length input + 1)
 
 abbrev μ-loop : tie.MeasureT-loop
 μ-loop input start₀ number₀ start number = length input + 1 - start
@@ -17,7 +17,7 @@ abbrev μ-loop : tie.MeasureT-loop
 loop-holds : tie.Need-loop-holds Inv-loop μ-loop
 loop-holds c =
     let args· = c .before .args in
-    (omega arith, omega arith, before-first (args· .input .now))
+    (before-first (args· .input .now), omega arith, omega arith)
 
 line-end-requires : tie.Need-line-end-requires Inv-loop μ-loop
 line-end-requires c κs =
@@ -32,7 +32,7 @@ answer-requires c κs =
     let args· = c .before .before .before .before .args in
     let loop· = c .before .before .loop in
     let line-end· = c .line-end in
-    numbered (args· .input .now) (loop· .number) (loop· .start) (line-end· .result) (loop· .inv .2) (line-end· .ensures)
+    numbered (args· .input .now) (loop· .number) (loop· .start) (line-end· .result) (loop· .inv .0) (line-end· .ensures)
 
 returns : tie.Need-returns Inv-loop μ-loop
 returns c = search needs
@@ -48,12 +48,12 @@ loop-less c =
 
 loop-again : tie.Need-loop-again Inv-loop μ-loop
 loop-again c =
-    let line-end· = c .before .before .line-end in
+    let args· = c .before .before .before .before .before .before .args in
     let loop· = c .before .before .before .before .loop in
-    let args· = c .before .before .before .before .before .before .args in (
-      omega (arith, line-end· .ensures .later, loop· .inv .0),
+    let line-end· = c .before .before .line-end in (
+      before-next (args· .input .now) (loop· .number) (loop· .start) (line-end· .result) (loop· .inv .0) (line-end· .ensures),
+      omega (arith, line-end· .ensures .later, loop· .inv .1),
       omega (arith, line-end· .ensures .inside),
-      before-next (args· .input .now) (loop· .number) (loop· .start) (line-end· .result) (loop· .inv .2) (line-end· .ensures),
     )
 
 returns-2 : tie.Need-returns-2 Inv-loop μ-loop

@@ -8,16 +8,16 @@ use Rattle.lines.proofs.cut.line_end.Statement.{statement}
 use Rattle.lines.proofs.cut.line_end.Tie as tie
 
 abbrev Inv-loop : tie.InvT-loop
-Inv-loop input start at₀ at = (start ≤ at) × (at ≤ length input) × Passed input start at
+Inv-loop input start at₀ at = Passed input start at × (start ≤ at) × (at ≤ length input)
 
 abbrev μ-loop : tie.MeasureT-loop
 μ-loop input start at₀ at = length input - at
 
 loop-holds : tie.Need-loop-holds Inv-loop μ-loop
 loop-holds c =
-    let pre· = c .pre in
     let args· = c .args in
-    (omega arith, omega (arith, pre·), passed-none (args· .input .now) (args· .start))
+    let pre· = c .pre in
+    (passed-none (args· .input .now) (args· .start), omega arith, omega (arith, pre·))
 
 shared-slice-read-if1 : tie.Need-shared-slice-read-if1 Inv-loop μ-loop
 shared-slice-read-if1 c = search needs
@@ -28,7 +28,7 @@ returns c =
     let loop· = c .before .before .before .loop in
     let loop-test· = c .before .before .loop-test in
     let if1· = c .if1 in
-    end-at-feed (args· .input .now) (args· .start) (loop· .at) (loop· .inv .0) (loop-test· .taken) (if1· .taken) (loop· .inv .2)
+    end-at-feed (args· .input .now) (args· .start) (loop· .at) (loop· .inv .1) (loop-test· .taken) (if1· .taken) (loop· .inv .0)
 
 add-at : tie.Need-add-at Inv-loop μ-loop
 add-at c = search needs
@@ -38,11 +38,11 @@ loop-less c = search needs
 
 loop-again : tie.Need-loop-again Inv-loop μ-loop
 loop-again c =
+    let args· = c .before .before .before .before .args in
     let loop· = c .before .before .before .loop in
     let loop-test· = c .before .before .loop-test in
-    let args· = c .before .before .before .before .args in
     let if1· = c .if1 in
-    (omega (arith, loop· .inv .0), omega (arith, loop-test· .taken), passed-more (args· .input .now) (args· .start) (loop· .at) (loop· .inv .0) (loop-test· .taken) (if1· .left) (loop· .inv .2))
+    (passed-more (args· .input .now) (args· .start) (loop· .at) (loop· .inv .1) (loop-test· .taken) (if1· .left) (loop· .inv .0), omega (arith, loop· .inv .1), omega (arith, loop-test· .taken))
 
 returns-2 : tie.Need-returns-2 Inv-loop μ-loop
 returns-2 c =
@@ -50,7 +50,7 @@ returns-2 c =
     let loop· = c .before .loop in
     let pre· = c .before .before .pre in
     let loop-test· = c .loop-test in
-    end-at-end (args· .input .now) (args· .start) (loop· .at) pre· (omega (arith, loop· .inv .1, loop-test· .left)) (loop· .inv .2)
+    end-at-end (args· .input .now) (args· .start) (loop· .at) pre· (omega (arith, loop· .inv .2, loop-test· .left)) (loop· .inv .0)
 
 pub line-end-spec : {M : Type 1} → statement M
 line-end-spec =
