@@ -96,31 +96,26 @@ static void begin(const char *name, uint64_t with) {
     calls += 2;
 }
 
-static uint64_t ask_check(uint64_t depth) {
+/* An entry that lends the text alone. */
+static uint64_t ask(const char *name, uint64_t (*call)(const void *, size_t, uint64_t), uint64_t with) {
     uint64_t first, second;
-    begin("check", depth);
-    first = trestulan_check(lend_text(0), len, depth);
-    second = trestulan_check(lend_text(1), len, depth);
+    begin(name, with);
+    first = call(lend_text(0), len, with);
+    second = call(lend_text(1), len, with);
     expect(first == second, "answers by what stands beside the text");
     return first;
+}
+
+static uint64_t ask_check(uint64_t depth) {
+    return ask("check", trestulan_check, depth);
 }
 
 static uint64_t ask_evaluate(uint64_t state) {
-    uint64_t first, second;
-    begin("evaluate", state);
-    first = trestulan_evaluate(lend_text(0), len, state);
-    second = trestulan_evaluate(lend_text(1), len, state);
-    expect(first == second, "answers by what stands beside the text");
-    return first;
+    return ask("evaluate", trestulan_evaluate, state);
 }
 
 static uint64_t ask_name(uint64_t flag) {
-    uint64_t first, second;
-    begin("name", flag);
-    first = trestulan_name(lend_text(0), len, flag);
-    second = trestulan_name(lend_text(1), len, flag);
-    expect(first == second, "answers by what stands beside the text");
-    return first;
+    return ask("name", trestulan_name, flag);
 }
 
 static uint64_t ask_list(uint64_t start, size_t room) {
