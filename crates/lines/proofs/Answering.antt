@@ -57,23 +57,26 @@ unfolding printed
 line-put number text v f g h i = puts-then (f .puts) (puts-then g (puts-then (h .puts) i))
 
 -- what is put for a question is the answer to the line that asks it
-pub answers : (number : ℕ) (line : List ℕ) (q : Question) (v : Verdict) (before room : List ℕ) (r : ℕ) → q ≡ question line → QuestionSays line q v
-    → Puts before 0 (printed number (guardIn line q) v) room r → Answers number line room r
-answers number line q v before room r e s p =
+pub answers : (number : ℕ) (line : List ℕ) (q : Question) (v : Verdict) (before after : List ℕ) (r : ℕ) → q ≡ question line → QuestionSays line q v
+    → Puts before 0 (printed number (guardIn line q) v) after r → Answers number line before after r
+answers number line q v before after r e s p =
     record {
-      inside = puts-inside (omega arith) p;
+      output = printed number (guardIn line q) v;
       answer = record {
         verdict = v;
         says = subst (λ (x : Question). QuestionSays line x v) e s;
-        text = p .written ∙ ap (λ (x : Question). printed number (guardIn line x) v) e;
+        text = ap (λ (x : Question). printed number (guardIn line x) v) e;
       };
+      count = omega (arith, p .next);
+      inside = puts-inside (omega arith) p;
+      holds = p .holds;
     }
 
 -- the guard is what is left of the line
-pub answers-guard : (number : ℕ) (line : List ℕ) (depth start : ℕ) (v : Verdict) (before room : List ℕ) (r : ℕ) → Asks depth start ≡ question line
-    → CheckSays (part start (length line) line) depth v → Puts before 0 (printed number (part start (length line) line) v) room r → Answers number line room r
-answers-guard number line depth start v before room r e s p =
+pub answers-guard : (number : ℕ) (line : List ℕ) (depth start : ℕ) (v : Verdict) (before after : List ℕ) (r : ℕ) → Asks depth start ≡ question line
+    → CheckSays (part start (length line) line) depth v → Puts before 0 (printed number (part start (length line) line) v) after r → Answers number line before after r
+answers-guard number line depth start v before after r e s p =
     let rest : part start (length line) line ≡ drop start line = take-all (length line - start) (drop start line) (rw length-drop (omega arith)) in
-    answers number line (Asks depth start) v before room r e
+    answers number line (Asks depth start) v before after r e
     (subst (λ (g : List ℕ). CheckSays g depth v) rest s)
-    (subst (λ (g : List ℕ). Puts before 0 (printed number g v) room r) rest p)
+    (subst (λ (g : List ℕ). Puts before 0 (printed number g v) after r) rest p)

@@ -14,7 +14,7 @@ use Rattle.truth.specs.Value.{bit}
 use Rattle.verdict.specs.Desk.{bytes}
 use Rattle.lines.specs.Printed.{flagValue, valued}
 use Rattle.lines.specs.Put.{Puts, PutsIn, CodeTable, valueRoom}
-use Rattle.lines.proofs.Putting.{puts-then}
+use Rattle.lines.proofs.Putting.{puts-of, puts-cut, kept-later, puts-then}
 
 -- the digit of a value
 pub value-digit : (b : Bool) → choose b (49 ∷ []) (48 ∷ []) ≡ bytes (choose b "1" "0")
@@ -66,11 +66,12 @@ pub record Written (text codes : List ℕ) (n state : ℕ) (out : List ℕ) (at 
   pub most : i ≤ n
   pub room : next + valueRoom * (n - i) ≤ at + valueRoom * n
   pub whole : take next now ++ valued (drop i (flagsIn text codes n)) state ≡ take at out ++ valued (flagsIn text codes n) state
+  pub kept : drop next now ≡ drop next out
   pub long : length now ≡ length out
 
 module _ (text codes : List ℕ) (n state : ℕ) (out : List ℕ) (at : ℕ) where
   pub written-none : Written text codes n state out at out at 0
-  written-none = record { most = omega arith; room = omega arith; whole = refl; long = refl }
+  written-none = record { most = omega arith; room = omega arith; whole = refl; kept = refl; long = refl }
 
   pub written-more : CodeTable text codes n → (now : List ℕ) (next i : ℕ) → Written text codes n state out at now next i → i < n
       → (b : Bool) → b ≡ bit state (n - 1 - i) → (then : List ℕ) (r : ℕ) → Puts now next (flagValue (codeIn text codes i) b) then r
@@ -84,12 +85,13 @@ module _ (text codes : List ℕ) (n state : ℕ) (out : List ℕ) (at : ℕ) whe
         most = omega arith;
         room = omega (arith, w .room, p .next);
         whole =
-            ap (λ (l : List ℕ). l ++ valued (drop (i + 1) (flagsIn text codes n)) state) (p .written)
+            ap (λ (l : List ℕ). l ++ valued (drop (i + 1) (flagsIn text codes n)) state) (puts-cut p .0)
             ∙ append-assoc (take next now) one (valued (drop (i + 1) (flagsIn text codes n)) state)
             ∙ ap (λ (u : List Flag). take next now ++ (one ++ valued u state)) (rest .2)
             ∙ ap (λ (v : Bool). take next now ++ (flagValue (codeIn text codes i) v ++ valued (rest .0) state)) (e ∙ ap (bit state) (sym (rest .3)))
             ∙ ap (λ (u : List Flag). take next now ++ valued u state) (sym (rest .1))
             ∙ w .whole;
+        kept = puts-cut p .1 ∙ kept-later out now next r (omega (arith, p .next)) (w .kept);
         long = p .long ∙ w .long;
       }
 
@@ -103,11 +105,9 @@ module _ (text codes : List ℕ) (n state : ℕ) (out : List ℕ) (at : ℕ) whe
       sym (append-nil (take next now)) ∙ ap (λ (u : List Flag). take next now ++ valued u state) (sym none) ∙ w .whole in
       let before : length (take at out) ≡ at = length-take-le at out (omega arith) in
       let after : length (take next now) ≡ next = length-take-le next now (omega (arith, w .room, w .long)) in
+      let count : next ≡ at + length (valued (flagsIn text codes n) state) =
+      sym after ∙ ap (λ (l : List ℕ). length l) all ∙ length-append (take at out) (valued (flagsIn text codes n) state) ∙ rw before in
       record {
-        puts = record {
-          next = sym after ∙ ap (λ (l : List ℕ). length l) all ∙ length-append (take at out) (valued (flagsIn text codes n) state) ∙ rw before;
-          written = all;
-          long = w .long;
-        };
+        puts = puts-of count all (w .kept) (w .long);
         within = omega (arith, w .room);
       }

@@ -1,8 +1,8 @@
 -- What covercheck answers to a line.
 use Prim.Native.Nat.{ℕ, _≤_}
 use mathlib.Core.Path.{_≡_}
-use mathlib.Core.List.{List}
-use lib.ListN.{length, take}
+use mathlib.Core.List.{List, _++_}
+use lib.ListN.{length, drop}
 use Rattle.verdict.specs.declared.verdicts.Verdict.{Verdict}
 use Rattle.lines.specs.Question.{guardOf, LineSays}
 use Rattle.lines.specs.Printed.{printed}
@@ -13,7 +13,10 @@ pub record AnswerLine (number : ℕ) (line bytes : List ℕ) : Type 0 where
   pub says : LineSays line verdict
   pub text : bytes ≡ printed number (guardOf line) verdict
 
--- the first r bytes of the room are the output line
-pub record Answers (number : ℕ) (line room : List ℕ) (r : ℕ) : Type 0 where
-  pub inside : r ≤ length room
-  pub answer : AnswerLine number line (take r room)
+-- the room afterwards: the r bytes of the output line, and behind them what stood there before
+pub record Answers (number : ℕ) (line before after : List ℕ) (r : ℕ) : Type 0 where
+  pub output : List ℕ
+  pub answer : AnswerLine number line output
+  pub count : r ≡ length output
+  pub inside : r ≤ length after
+  pub holds : after ≡ output ++ drop r before

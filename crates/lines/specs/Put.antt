@@ -2,14 +2,14 @@
 use Prim.Native.Nat.{ℕ, _+_, _*_, _≤_, _<_}
 use mathlib.Core.Path.{_≡_}
 use mathlib.Core.List.{List, _++_}
-use lib.ListN.{length, take}
+use lib.ListN.{length, take, drop}
 use Rattle.notation.specs.Ceilings.{codeCeiling, flagCeiling}
 use Rattle.notation.specs.Codes.{codeIn, InText}
 
--- the bytes stand in the slice from a place on, up to r; what stood before them still does
+-- the bytes stand in the slice from a place on, up to r; what stood before and behind them still does
 pub record Puts (before : List ℕ) (place : ℕ) (bytes after : List ℕ) (r : ℕ) : Type 0 where
   pub next : r ≡ place + length bytes
-  pub written : take r after ≡ take place before ++ bytes
+  pub holds : after ≡ take place before ++ (bytes ++ drop r before)
   pub long : length after ≡ length before
 
 -- the same, in so much room

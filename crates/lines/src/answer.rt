@@ -60,9 +60,9 @@ fn put_line(out: &mut [u8], number: u64, text: &[u8], verdict: Verdict) -> usize
     put(out, end, b'\n')
 }
 
-// What is printed for a line: answers how many bytes of the room it is.
+// What is printed for a line: answers how many bytes of the room it is. The others stay as they were.
 pub fn answer_line(number: u64, line: &[u8], out: &mut [u8; ANSWER]) -> usize
-    ensures { λ r. ⌜ Answers number (now (line .entry)) (now (out .exit)) r ⌝ }
+    ensures { λ r. ⌜ Answers number (now (line .entry)) (now (out .entry)) (now (out .exit)) r ⌝ }
 {
     let question = question_of(line);
     let Question::Asks { depth, start } = question else {
