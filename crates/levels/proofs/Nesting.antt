@@ -12,7 +12,7 @@ use Rattle.notation.specs.Tokens.{Tokens, Sign, opening, bang, at as token-at}
 use Rattle.notation.specs.Walk.{Flag, refused, walk, operand, after, within}
 use Rattle.notation.specs.Guard.{Guard, negated, connectives}
 use Rattle.notation.specs.Grammar.{Level, Parsed, found, follow, past, closed, operandOf, inBrackets, sameOf, toTheRight, rightLevel}
-use Rattle.notation.specs.Triplets.{Triplet, literal, triplets, numbers, negation, literalCeiling, turned}
+use Rattle.notation.specs.Triplets.{Triplet, literal, triplets, numbers, negation, literalCeiling, signed}
 use Rattle.notation.specs.Cut.{aheadAs, ahead, ends}
 use Rattle.notation.specs.Codes.{flagsIn, InText}
 use Rattle.operands.specs.Levels.{plain, bangs, TokenFits, Standing, AdvancedSays, ClosedSays, FoundPart, LevelSays, operandsAt}
@@ -145,23 +145,23 @@ module _ (text : List ℕ) (at : At) (k : at .token .kind ≡ kind.Opening) (d :
       bracket-says (answer.Refused f) c = never-closed f c
 
 -- a literal is turned not at all by 0
-pub turned-not : (l : ℕ) → turned 0 l ≡ l
-unfolding turned
-turned-not l = omega arith
+pub signed-not : (l : ℕ) → signed l 0 ≡ l
+unfolding signed
+signed-not l = omega arith
 
 twice : (l n : ℕ) → n ≡ 2 * (l / 2) + (l + 1) % 2 → 2 * (n / 2) + (n + 1) % 2 ≡ l
 twice l n e = omega arith
 
 -- negating a literal turns it once more
-pub turned-once-more : (odd l : ℕ) → odd ≤ 1 → turned odd (negation l) ≡ turned (1 - odd) l
-unfolding turned negation
-turned-once-more zero l h = turned-not (negation l)
-turned-once-more (suc zero) l h = twice l (negation l) refl ∙ sym (turned-not l)
-turned-once-more (suc (suc n)) l h = absurd (omega arith)
+pub signed-once-more : (odd l : ℕ) → odd ≤ 1 → signed (negation l) odd ≡ signed l (1 - odd)
+unfolding signed negation
+signed-once-more zero l h = signed-not (negation l)
+signed-once-more (suc zero) l h = twice l (negation l) refl ∙ sym (signed-not l)
+signed-once-more (suc (suc n)) l h = absurd (omega arith)
 
-pub turned-small : (odd l : ℕ) → odd ≤ 1 → l ≤ literalCeiling → turned odd l ≤ literalCeiling
-unfolding turned
-turned-small odd l h i = omega arith
+pub signed-small : (odd l : ℕ) → odd ≤ 1 → l ≤ literalCeiling → signed l odd ≤ literalCeiling
+unfolding signed
+signed-small odd l h i = omega arith
 
 ahead-bang : (k : Kind) (text : List ℕ) (p e : ℕ) → bangs k ≡ true → aheadAs k text p e ≡ token-at p bang (past (aheadAs k text p e))
 unfolding aheadAs past
@@ -184,7 +184,7 @@ bang-on kind.Closing e = refl
 
 -- the guard h is g behind some `!`, an odd number of them where odd is 1
 pub record Turned (odd : ℕ) (g h : Guard) : Type 0 where
-  pub literally : (c : ℕ) → literal c h ≡ turned odd (literal c g)
+  pub literally : (c : ℕ) → literal c h ≡ signed (literal c g) odd
   pub nothing : (c : ℕ) → triplets c h ≡ triplets c g
   pub plainly : connectives h ≡ connectives g
 
@@ -204,7 +204,7 @@ pub record Bangs (text : List ℕ) (at here : At) (odd : ℕ) : Type 0 where
 pub bangs-none : (text : List ℕ) (at : At) → TokenFits text (at .token) → Bangs text at at 0
 bangs-none text at t = record {
   walked = λ d u m. refl;
-  parsed = λ inner u g v us e. (g, e, record { literally = λ c. sym (turned-not (literal c g)); nothing = λ c. refl; plainly = refl });
+  parsed = λ inner u g v us e. (g, e, record { literally = λ c. sym (signed-not (literal c g)); nothing = λ c. refl; plainly = refl });
   parity = omega arith;
   flags = refl;
   signs = refl;
@@ -241,7 +241,7 @@ module _ (text : List ℕ) (at here : At) (odd : ℕ) (b : Bangs text at here od
           r .0,
           r .1,
           record {
-            literally = λ c. r .2 .literally c ∙ turned-once-more odd (literal c g) (b .parity);
+            literally = λ c. r .2 .literally c ∙ signed-once-more odd (literal c g) (b .parity);
             nothing = λ c. r .2 .nothing c;
             plainly = r .2 .plainly;
           },
@@ -278,7 +278,7 @@ module _ (text : List ℕ) (at here : At) (odd : ℕ) (b : Bangs text at here od
 
   -- the operand behind them, turned
   pub behind-found : (d : ℕ) (out : List ℕ) {p : Part} {codes′ out′ : List ℕ} → FoundPart (plain (operandsAt d)) d 0 text here codes out p codes′ out′ →
-      FoundPart (plain (operandsAt d)) d 0 text at codes out (record { literal = turned odd (p .literal); at = p .at }) codes′ out′
+      FoundPart (plain (operandsAt d)) d 0 text at codes out (record { literal = signed (p .literal) odd; at = p .at }) codes′ out′
   behind-found d out {p} {codes′} {out′} r =
       let t = b .parsed (inBrackets (bracketCeiling - d)) (flagsIn text codes (here .flags)) (r .guard) (flagsIn text codes′ (p .at .flags)) (ahead text (p .at .token)) (r .reads .parsed connectiveCeiling (omega arith)) in
       record {
@@ -290,8 +290,8 @@ module _ (text : List ℕ) (at here : At) (odd : ℕ) (b : Bangs text at here od
           stops = r .reads .stops;
         };
         writes = record {
-          literal = ap (turned odd) (r .writes .literal ∙ ap (λ (n : ℕ). literal n (r .guard)) (b .count)) ∙ sym (t .2 .literally (at .count));
-          small = turned-small odd (p .literal) (b .parity) (r .writes .small);
+          literal = ap (λ (l : ℕ). signed l odd) (r .writes .literal ∙ ap (λ (n : ℕ). literal n (r .guard)) (b .count)) ∙ sym (t .2 .literally (at .count));
+          small = signed-small odd (p .literal) (b .parity) (r .writes .small);
           count = omega (arith, r .writes .count, b .count, t .2 .plainly);
           written = r .writes .written ∙ ap (λ (n : ℕ). take (3 * n) out ++ numbers (triplets n (r .guard))) (b .count) ∙ ap (λ (x : List Triplet). take (3 * at .count) out ++ numbers x) (sym (t .2 .nothing (at .count)));
         };

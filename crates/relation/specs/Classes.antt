@@ -1,5 +1,5 @@
 -- How an array of literals keeps a relation: each variable leads to the literal of the lowest variable of its class.
-use Prim.Native.Nat.{ℕ, zero, suc, _+_, _*_, _/_, _%_, _≤_, _<_}
+use Prim.Native.Nat.{ℕ, zero, suc, _+_, _*_, _/_, _≤_, _<_}
 use mathlib.Core.Path.{_≡_}
 use mathlib.Core.Bool.{Bool, true}
 use mathlib.Core.List.{List}
@@ -7,15 +7,12 @@ use lib.ListN.{length, getD}
 use lib.Dec.{eqb}
 use Rattle.notation.specs.Ceilings.{flagCeiling, connectiveCeiling}
 use Rattle.notation.specs.Tokens.{choose}
+use Rattle.notation.specs.Triplets.{signed}
 use Rattle.relation.specs.Relation.{Rel}
 
 -- the variables: true, the flags and the triplets
 abbrev pub variableCeiling : ℕ
 variableCeiling = 1 + flagCeiling + connectiveCeiling
-
--- the literal w, negated where s is odd
-unfoldable pub signed : ℕ → ℕ → ℕ
-signed w s = 2 * (w / 2) + (w + s) % 2
 
 -- what an array has for a variable; one past its end stands for itself
 abbrev pub entry : List ℕ → ℕ → ℕ

@@ -5,7 +5,8 @@
 use notation::ceilings::VARIABLES;
 ghost use mathlib.Core.Path.{_≡_};
 ghost use Prim.Native.Nat.{_+_, _*_, _/_, _<_, _^_};
-ghost use Rattle.relation.specs.Classes.{variableCeiling, signed, entry, kept};
+ghost use Rattle.notation.specs.Triplets.{signed};
+ghost use Rattle.relation.specs.Classes.{variableCeiling, entry, kept};
 ghost use Rattle.relation.specs.Contracts.{Fresh, Led, Lower, tied};
 
 // Each variable with the literal of the lowest variable of its class.

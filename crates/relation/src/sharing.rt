@@ -6,7 +6,8 @@ ghost use Prim.Native.Nat.{_+_, _*_, _/_, _<_, _^_, max};
 ghost use mathlib.Core.Bool.{false};
 ghost use lib.Dec.{eqb};
 ghost use Rattle.notation.specs.Tokens.{choose};
-ghost use Rattle.relation.specs.Classes.{variableCeiling, Classes, entry, signed};
+ghost use Rattle.notation.specs.Triplets.{signed};
+ghost use Rattle.relation.specs.Classes.{variableCeiling, Classes, entry};
 ghost use Rattle.relation.specs.Contracts.{Lower, Shared, SharedLeader};
 
 // Whether c and d, each negated where s is odd, are a and b.

@@ -9,9 +9,9 @@ use native.Mathlib.Numerals.{add-one}
 use lib.Pow.{pow-mono}
 use borrow.Author.Tests.{eqb-true}
 use Rattle.notation.specs.Ceilings.{flagCeiling}
-use Rattle.notation.specs.Triplets.{Triplet, negation}
+use Rattle.notation.specs.Triplets.{Triplet, negation, signed}
 use Rattle.relation.specs.Relation.{Rel, IsRelation, Within}
-use Rattle.relation.specs.Classes.{Classes, entry, kept, signed}
+use Rattle.relation.specs.Classes.{Classes, entry, kept}
 use Rattle.relation.specs.Contracts.{Fresh, Joined}
 use Rattle.notation.proofs.Cases.{never}
 use Rattle.relation.proofs.LiteralLaws.{signed-odd}

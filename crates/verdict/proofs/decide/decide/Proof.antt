@@ -3,7 +3,7 @@ use borrow.Author.Needs.{needs}
 use Prim.Native.Nat.{ℕ, _+_, _*_, _-_, _/_, _≤_, _<_}
 use mathlib.Core.Path.{_≡_, sym, ap, _∙_}
 use native.Mathlib.Omega.{arith}
-use Rattle.relation.specs.Classes.{signed}
+use Rattle.notation.specs.Triplets.{signed}
 use Rattle.relation.proofs.LiteralLaws.{signed-half}
 use Rattle.relation.proofs.ClassLaws.{lowers, classes-more}
 use Rattle.steps.specs.Contracts.{inUse}
