@@ -16,12 +16,6 @@ use Rattle.lines.specs.Printed.{flagValue, valued}
 use Rattle.lines.specs.Put.{Puts, PutsIn, CodeTable, valueRoom}
 use Rattle.lines.proofs.Putting.{puts-of, puts-cut, kept-later, puts-then}
 
--- the digit of a value
-pub value-digit : (b : Bool) → choose b (49 ∷ []) (48 ∷ []) ≡ bytes (choose b "1" "0")
-unfolding bytes
-value-digit true = refl
-value-digit false = refl
-
 -- one flag: a space, the code, `=`, the digit
 pub flag-put : {a b c d e code : List ℕ} {p q s t r : ℕ} (v : Bool)
     → Puts a p (32 ∷ []) b q → Puts b q code c s → Puts c s (61 ∷ []) d t → Puts d t (bytes (choose v "1" "0")) e r → Puts a p (flagValue code v) e r
