@@ -10,6 +10,9 @@ import os
 import random
 import sys
 
+sys.path.insert(0, os.path.join(os.path.dirname(os.path.abspath(__file__)), "..", "tests"))
+from guards import nesting
+
 CODES = [f"{stem}{i}" for i, stem in enumerate("MET SAW DAY.2_ 3E HAS_KEY GONE inn_ Q".split() * 3)]
 
 
@@ -84,14 +87,6 @@ def wide(rng):
         text = tree(255, 0)
         if len(text) <= 4096 and flags(text) == 24 and nesting(text) <= 32:
             return text
-
-
-def nesting(text):
-    most = depth = 0
-    for byte in text:
-        depth += (byte == "(") - (byte == ")")
-        most = max(most, depth)
-    return most
 
 
 def flags(text):
