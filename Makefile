@@ -1,4 +1,5 @@
-# make            proves and builds the program, the archive for C and the example
+# make            proves and builds the program and the archive for C
+# make example    builds the example importer; CC is a compiler for x86-64, as the archive is
 # make install    puts the program, archive, header, pkg-config file and manual page below PREFIX (DESTDIR is put before it)
 # make check      runs the gate
 PREFIX ?= /usr/local
@@ -12,9 +13,11 @@ program := target/bin/covercheck
 archive := target/staticlib/libimporter.a
 to := $(DESTDIR)$(PREFIX)
 
-.PHONY: all install uninstall check clean
+.PHONY: all example install uninstall check clean
 
-all: $(program) $(archive) target/importer
+all: $(program) $(archive)
+
+example: target/importer
 
 # Proved anew only where a source changed.
 $(program): $(sources)
@@ -25,7 +28,6 @@ $(archive): $(sources) $(program)
 	rt staticlib importer
 	touch $@
 
-# The example importer, for x86-64.
 target/importer: examples/importer.c include/trestulan.h $(archive)
 	$(CC) $(CFLAGS) -std=c99 -Wall -Wextra -Iinclude -o $@ examples/importer.c $(archive)
 
