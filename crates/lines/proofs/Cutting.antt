@@ -121,6 +121,17 @@ module _ (input : List ℕ) where
         inside = e .inside;
       }
 
+  -- ---- how many lines there are
+  pub before-all : (n start : ℕ) → LinesBefore input n start → length input ≤ start → n ≡ length (lines input)
+  before-all n start b h =
+      let e : lines input ≡ b .passed ++ [] = b .whole ∙ ap (λ (ls : List (List ℕ)). b .passed ++ ls) (lines-past start h) in
+      omega (arith, b .count, ap (λ (ls : List (List ℕ)). length ls) e, length-append (b .passed) [])
+
+  pub before-some : (n start r : ℕ) → LinesBefore input n start → LineEnd input start r → n < length (lines input)
+  before-some n start r b e =
+      let l : LineAt input (n + 1) start r = numbered n start r b e in
+      omega (arith, l .count, ap (λ (ls : List (List ℕ)). length ls) (l .whole), length-append (l .passed) (part start r input ∷ l .left))
+
 -- cutting an input from its start goes through exactly its lines
 pub through-input : (input : List ℕ) (ls : List (List ℕ)) → Through input 0 ls → ls ≡ lines input
 through-input input ls t = through-lines input t

@@ -3,3 +3,4 @@ pub mod Question
 pub mod Printed
 pub mod Put
 pub mod Answer
+pub mod Output

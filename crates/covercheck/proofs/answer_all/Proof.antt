@@ -1,9 +1,9 @@
--- `covercheck::answer_all` is safe and ends, and asks for each line by its number: so many lines stand before the next one's start.
+-- `covercheck::answer_all` asks for each line by its number, and answers all of them: so many lines stand before the next one's start.
 use Prim.Native.Nat.{_+_, _-_, _≤_}
 use native.Mathlib.Omega.{arith}
 use lib.ListN.{length}
 use Rattle.lines.specs.Lines.{LinesBefore}
-use Rattle.lines.proofs.Cutting.{before-first, before-next, numbered}
+use Rattle.lines.proofs.Cutting.{before-first, before-next, numbered, before-all, before-some}
 use borrow.Author.Needs.{needs}
 use Rattle.covercheck.proofs.answer_all.Statement.{statement}
 use Rattle.covercheck.proofs.answer_all.Tie as tie
@@ -24,8 +24,8 @@ line-end-requires c κs =
     let loop-test· = c .loop-test in
     loop-test· .taken
 
-add-number : tie.Need-add-number Inv-loop μ-loop
-add-number c = search needs
+add-answer : tie.Need-add-answer Inv-loop μ-loop
+add-answer c = search needs
 
 answer-requires : tie.Need-answer-requires Inv-loop μ-loop
 answer-requires c κs =
@@ -35,7 +35,14 @@ answer-requires c κs =
     numbered (args· .input .now) (loop· .number) (loop· .start) (line-end· .result) (loop· .inv .0) (line-end· .ensures)
 
 returns : tie.Need-returns Inv-loop μ-loop
-returns c = search needs
+returns c =
+    let args· = c .before .before .before .before .before .before .args in
+    let loop· = c .before .before .before .before .loop in
+    let line-end· = c .before .before .line-end in
+    before-some (args· .input .now) (loop· .number) (loop· .start) (line-end· .result) (loop· .inv .0) (line-end· .ensures)
+
+add-number : tie.Need-add-number Inv-loop μ-loop
+add-number c = search needs
 
 add-start : tie.Need-add-start Inv-loop μ-loop
 add-start c = search needs
@@ -50,14 +57,14 @@ loop-again : tie.Need-loop-again Inv-loop μ-loop
 loop-again c =
     let args· = c .before .before .before .before .before .before .args in
     let loop· = c .before .before .before .before .loop in
-    let line-end· = c .before .before .line-end in (
-      before-next (args· .input .now) (loop· .number) (loop· .start) (line-end· .result) (loop· .inv .0) (line-end· .ensures),
-      omega (arith, line-end· .ensures .later, loop· .inv .1),
-      omega (arith, line-end· .ensures .inside),
-    )
+    let line-end· = c .before .before .line-end in
+    (before-next (args· .input .now) (loop· .number) (loop· .start) (line-end· .result) (loop· .inv .0) (line-end· .ensures), omega (arith, line-end· .ensures .later, loop· .inv .1), omega (arith, line-end· .ensures .inside))
 
 returns-2 : tie.Need-returns-2 Inv-loop μ-loop
-returns-2 c = search needs
+returns-2 c =
+    let args· = c .before .before .before .args in
+    let loop· = c .before .loop in
+    before-all (args· .input .now) (loop· .number) (loop· .start) (loop· .inv .0) (omega arith)
 
 pub answer-all-spec : {M : Type 1} → statement M
 answer-all-spec =
@@ -67,9 +74,10 @@ answer-all-spec =
     μ-loop
     loop-holds
     line-end-requires
-    add-number
+    add-answer
     answer-requires
     returns
+    add-number
     add-start
     loop-less
     loop-again
