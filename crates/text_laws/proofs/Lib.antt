@@ -1,0 +1,4 @@
+pub mod Accepting
+pub mod Passing
+pub mod Taking
+pub mod Found
