@@ -2,3 +2,6 @@ pub mod Accepting
 pub mod Passing
 pub mod Taking
 pub mod Found
+pub mod Flags
+pub mod Standing
+pub mod Naming

@@ -36,12 +36,12 @@ leaves (truth b) = []
 leaves (negated g) = leaves g
 leaves (joined s g h) = leaves g ++ leaves h
 
--- the codes seen once those of a list, which stand at place p, are
+-- the codes seen once each of a list is, at place p
 unfoldable pub seenAt : ℕ → List Code → List Flag → List Flag
 seenAt p [] u = u
 seenAt p (c ∷ cs) u = seenAt p cs (seen p c u)
 
--- the codes seen once all of a text are: flags go by first appearance, each with the place of that
+-- the codes seen once all of a text are: each by first appearance, with the place where it then stands
 unfoldable pub seenIn : List Flag → Tokens → List Flag
 seenIn u (end p) = u
 seenIn u (at p t ts) = seenIn (seenAt p (codeOf t) u) ts
