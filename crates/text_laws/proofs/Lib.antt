@@ -5,3 +5,4 @@ pub mod Found
 pub mod Flags
 pub mod Standing
 pub mod Naming
+pub mod Numbering
