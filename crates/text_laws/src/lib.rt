@@ -1,0 +1,1 @@
+// What every text that is read says: laws on the definitions of `notation` and `reading`, and no code.
