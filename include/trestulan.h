@@ -1,4 +1,4 @@
-/* Trestulan: checks guards. Link with libimporter.a (x86-64 Linux).
+/* Trestulan: checks guards. Link with libtrestulan.a (x86-64 Linux), as `pkg-config --cflags --libs trestulan` says.
  *
  * A guard is a text of bytes, given by its first byte and its length; no byte after it is read, and it needs no
  * zero at its end. Codes are made of A-Z a-z 0-9 _ and the dot; from loosest to tightest bind = > | & !, with
@@ -9,6 +9,12 @@
  * number x 2^16 + place. No entry keeps a pointer, allocates, or has a state of its own; several threads may call
  * at once. Nothing outside the lent memory is read or written, and a refusal leaves lent memory as it was.
  * A pointer is never null, not even with the length 0; memory that is written does not overlap the text.
+ *
+ * Before version 1.0 these stay as they are: the entries' names and parameters, kinds and payloads, the numbers of refusals and what each
+ * means. Further entries, kinds and refusals may come, ceilings may rise, and a refusal may come to say more in the payload's bits from 24
+ * up: take an answer apart by the functions below, and treat a kind or a number that you do not know as not covered.
+ *
+ * An entry takes at most TRESTULAN_STACK bytes of the calling thread's stack, whatever the text and the number.
  */
 #ifndef TRESTULAN_H
 #define TRESTULAN_H
@@ -48,6 +54,12 @@ extern "C" {
 #define TRESTULAN_ROOM_TOO_SMALL 10u    /* read: room under 3 numbers a triplet: at 0 */
 #define TRESTULAN_NO_SUCH_FLAG 11u      /* name: flag number 0 or over n: at 0 */
 
+/* The version of this header and of the archive that it came with. */
+#define TRESTULAN_VERSION "0.1.0"
+
+/* Bytes of stack that every entry keeps within; measured on the worst texts known. */
+#define TRESTULAN_STACK 262144u
+
 /* Ceilings. */
 #define TRESTULAN_MAX_TEXT 4096u
 #define TRESTULAN_MAX_DEPTH 24u
@@ -57,8 +69,9 @@ extern "C" {
 #define TRESTULAN_MAX_TRIPLETS 255u
 #define TRESTULAN_MAX_ROOM (3u * TRESTULAN_MAX_TRIPLETS) /* room that read never finds too small */
 
-/* Checks a guard at a depth of 0 to 24. A greater depth decides more guards and takes longer; a depth not below the
- * number of flags decides every guard. Kinds: COVERED, GAP, UNDECIDED, REFUSED. */
+/* Checks a guard at a depth of 0 to 24. A greater depth decides no guard less; a depth not below the number of flags decides every
+ * guard. It does not always take longer: from the number of flags up the first gap is looked for directly, which is the cheapest on most
+ * guards, while depths just below that number are the dearest. Kinds: COVERED, GAP, UNDECIDED, REFUSED. */
 uint64_t trestulan_check(const void *text, size_t length, uint64_t depth);
 
 /* Evaluates a guard in a state: 0 false, 1 true, or a refusal. */
@@ -69,7 +82,9 @@ uint64_t trestulan_evaluate(const void *text, size_t length, uint64_t state);
 uint64_t trestulan_list(const void *text, size_t length, uint64_t start, uint32_t *out, size_t room);
 
 /* Writes kind, y and z of each triplet from the start of the room; the rest is unchanged.
- * Kinds: FOUND (payload flags x 2^24 + triplets x 2^16 + root literal), REFUSED. */
+ * Kinds: FOUND (payload flags x 2^24 + triplets x 2^16 + root literal), REFUSED.
+ * To learn n, the number of flags, lend TRESTULAN_MAX_ROOM numbers and take trestulan_read_flags of the answer; or ask name for 1, 2 and
+ * so on until it refuses with NO_SUCH_FLAG. */
 uint64_t trestulan_read(const void *text, size_t length, uint16_t *out, size_t room);
 
 /* Where flag i, counted from 1, first stands in the text.
@@ -86,7 +101,7 @@ static inline uint32_t trestulan_payload(uint64_t answer) { return (uint32_t)(an
 static inline int trestulan_is_refused(uint64_t answer) { return trestulan_kind(answer) == TRESTULAN_REFUSED; }
 
 /* Of a refusal: its number, and the place in the text, counted in bytes from 0. */
-static inline uint32_t trestulan_refusal_number(uint64_t answer) { return trestulan_payload(answer) >> 16; }
+static inline uint32_t trestulan_refusal_number(uint64_t answer) { return (trestulan_payload(answer) >> 16) & 0xffu; }
 
 static inline uint32_t trestulan_refusal_place(uint64_t answer) { return trestulan_payload(answer) & 0xffffu; }
 

@@ -21,6 +21,7 @@ def example(name):
 def fixed():
     yield example("guards.txt")
     yield example("outline.txt")
+    yield example("joined.txt")
     yield b""
     yield b"\n"
     yield b"\n\n0 A"
