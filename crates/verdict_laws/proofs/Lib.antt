@@ -1,1 +1,3 @@
 pub mod Trials
+pub mod Services
+pub mod Refusals
