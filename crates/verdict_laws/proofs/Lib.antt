@@ -1,3 +1,6 @@
 pub mod Trials
 pub mod Services
 pub mod Refusals
+pub mod Joins
+pub mod Growing
+pub mod Existing
