@@ -4,3 +4,4 @@ pub mod Refusals
 pub mod Joins
 pub mod Growing
 pub mod Existing
+pub mod Answered

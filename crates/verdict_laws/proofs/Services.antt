@@ -76,7 +76,7 @@ unfolding placed
 placed-none out = rw (take-all {A = ℕ} (length out) [] (omega arith))
 
 -- ---- a text that is read is within its ceiling, and so is its guard
-read-short : (text : List ℕ) (g : Guard) (u : List Flag) → reading text ≡ guard g u → length text ≤ textCeiling
+pub read-short : (text : List ℕ) (g : Guard) (u : List Flag) → reading text ≡ guard g u → length text ≤ textCeiling
 read-short text g u e =
     ⊎-elim
     (λ (a : textCeiling < length text).

@@ -4,10 +4,13 @@ use mathlib.Core.Path.{_≡_}
 use mathlib.Core.Bool.{true}
 use mathlib.Core.List.{List, [], _∷_}
 use mathlib.Core.Logic.{_↔_}
-use Rattle.notation.specs.Triplets.{Triplet, negation}
+use Rattle.notation.specs.Guard.{Guard}
+use Rattle.notation.specs.Triplets.{Triplet, negation, literal, triplets}
 use Rattle.relation.specs.Relation.{Rel, Within}
-use Rattle.saturation.specs.Saturation.{taking, taken, SaturationOf}
+use Rattle.saturation.specs.Saturation.{taking, taken, SaturationOf, Flags}
 use Rattle.saturation.specs.Answer.{Verdict, covered, gap, undecided, flagAs, flagsAs, Refuted, Trial}
+use Rattle.verdict.specs.declared.verdicts.Verdict as verdicts
+use Rattle.verdict.specs.declared.verdicts.Verdict.the-variants as verdict
 
 -- a relation is contradictory where it holds true = false
 abbrev pub Contradictory : Rel → Type 0
@@ -53,3 +56,13 @@ pub record Reached (D : ℕ → Type 0) (ts : List Triplet) (root k i : ℕ) (T 
   pub trial : Trial D ts root k i s
   pub fixes : Fixes i T s
   pub refuted : Contradictory T ↔ Refuted D ts root k (flagsAs i s)
+
+-- the outline's answer for a guard of n flags at depth k: its triplets, its root literal, and splits on its flags
+abbrev pub OutlineSays : ℕ → Guard → ℕ → Verdict → Type 0
+OutlineSays n g k v = Outline (Flags n) (triplets 0 g) (literal 0 g) k n v
+
+-- the verdict on a text that an answer for its guard is
+abbrev pub verdictFor : Verdict → verdicts.Verdict
+verdictFor covered = verdict.Covered
+verdictFor (gap s) = verdict.Gap s
+verdictFor undecided = verdict.Undecided
