@@ -1,5 +1,9 @@
 #!/usr/bin/env python3
-"""Whether what the documents name is there: each path, each edit that must be refused, and each law by its name in a file named beside it."""
+"""Whether what the documents name is there, and whether what they count is so.
+
+Each path; each edit that must be refused; each law and definition by its name, in the file named beside it or, where none is, in some crate;
+and the lines of the definitions that must be believed, which have ceilings.
+"""
 import glob
 import os
 import re
@@ -9,7 +13,13 @@ ROOT = os.path.join(os.path.dirname(os.path.abspath(__file__)), "..")
 PATH = re.compile(r"`([A-Za-z_.0-9*-]+(?:/[A-Za-z_.0-9+*-]+)+/?)`")
 EDIT = re.compile(r"(?:\(|[Ee]dits? |, |and )`([a-z0-9_]+)`\)|[Ee]dits?:? `([a-z0-9_]+)`")
 TELLING_EDITS = ("STATEMENTS.md", "MAP.md")
-LAW = re.compile(r"`([a-z_]+/(?:specs|proofs)/[A-Za-z]+\.antt)`, `([A-Za-z-]+)`")
+LAW = re.compile(r"`([a-z_]+/(?:specs|proofs)/(?:contracts/)?[A-Za-z]+\.antt)`, `([A-Za-z-]+)`")
+# A name by itself is a law's or a definition's where it has a hyphen or a capital inside or first; with a module before it, it is of that module.
+NAME = re.compile(r"`(?:([A-Z][A-Za-z]+)\.)?([a-z]+(?:-[a-z0-9]+)+|[a-z]*[A-Z][A-Za-z]+|[a-z]+)`")
+COUNTED = re.compile(r"`([a-z_]+/specs/[A-Za-z]+\.antt)` (\d+)")
+BELIEVED = re.compile(r"^\| ([a-z]+) \| ((?:[^|]*`[a-z_]+/specs/[^|]*)) \| (\d+) \|$", re.M)
+CEILINGS = {"read": 300, "list": 300, "check": 400}
+DECLARED = r"^ *(?:(?:abbrev |unfoldable )?pub )?(?:record |data )?{}(?: [a-z-]+)* (?::|\(|\{{)"
 
 
 def there(path):
@@ -20,30 +30,67 @@ def edits():
     return {os.path.basename(path)[: -len(".edit")] for path in glob.glob(os.path.join(ROOT, "crates/*/must-fail/*.edit"))}
 
 
-def has(path, law):
-    with open(os.path.join(ROOT, "crates", path), encoding="utf-8") as file:
-        return re.search(rf"^ *(?:(?:abbrev |unfoldable )?pub )?(?:record |data )?{re.escape(law)} ", file.read(), re.M) is not None
+def read(path):
+    with open(os.path.join(ROOT, path), encoding="utf-8") as file:
+        return file.read()
+
+
+def sources():
+    return {path: read(path) for path in glob.glob("crates/*/*/**/*.antt", root_dir=ROOT, recursive=True)}
+
+
+def declares(text, name):
+    return re.search(DECLARED.format(re.escape(name)), text, re.M) is not None
+
+
+def laws_of(text, known):
+    """Each law or definition that a document names, and whether it is declared where it should be."""
+    for path, law in LAW.findall(text):
+        yield f"{law} of {path}", there(path) and declares(read(os.path.join("crates", path)), law)
+    for module, name in NAME.findall(text):
+        if module:
+            yield f"{module}.{name}", any(declares(source, name) for path, source in known.items() if path.endswith(f"/{module}.antt"))
+        elif not name.isalpha() or not name.islower():
+            yield name, any(declares(source, name) for source in known.values())
+
+
+def lines_of(path):
+    """Lines of a file of definitions, without imports, comments and blank lines."""
+    lines = [line.strip() for line in read(os.path.join("crates", path)).splitlines()]
+    return sum(1 for line in lines if line and not line.startswith(("--", "use ")))
+
+
+def believed(text):
+    rows = BELIEVED.findall(text)
+    for service, cell, total in rows:
+        counted = [(path, int(lines)) for path, lines in COUNTED.findall(cell)]
+        for path, lines in counted:
+            yield f"{service}: {path} with {lines} lines", there(path) and lines_of(path) == lines
+        yield f"{service}: {total} lines in all", sum(lines for _, lines in counted) == int(total)
+    for service, most in CEILINGS.items():
+        yield f"{service} within {most} lines", any(int(total) <= most for name, _, total in rows if name == service)
 
 
 def main():
-    known = edits()
+    known_edits, known = edits(), sources()
     named = missing = 0
     for document in ["README.md", *sorted(os.listdir(os.path.join(ROOT, "docs")))]:
         where = document if document == "README.md" else os.path.join("docs", document)
         if not where.endswith(".md"):
             continue
-        with open(os.path.join(ROOT, where), encoding="utf-8") as file:
-            text = file.read()
+        text = read(where)
         wanted = [(f"path {path}", there(path)) for path in PATH.findall(text) if not path.startswith("target/")]
         if document in TELLING_EDITS:
-            wanted += [(f"edit {a or b}", (a or b) in known) for a, b in EDIT.findall(text)]
-        wanted += [(f"{law} of {path}", there(path) and has(path, law)) for path, law in LAW.findall(text)]
+            wanted += [(f"edit {a or b}", (a or b) in known_edits) for a, b in EDIT.findall(text)]
+            wanted += laws_of(text, known)
+        if document == "STATEMENTS.md":
+            wanted += believed(text)
         named += len(wanted)
         for what, found in wanted:
             if not found:
                 missing += 1
                 print(f"{where}: no {what}")
-    print(f"documents: {named} names, {missing} not there")
+    print(f"documents: {named} names and counts, {missing} not there or not so")
     return named and not missing
 
 
