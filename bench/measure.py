@@ -1,10 +1,11 @@
 #!/usr/bin/env python3
-"""measure.py DIR [ours]: measures the programs that bench/run has built in DIR, in x86-64 instructions, and prints the tables.
+"""measure.py DIR: measures the programs that bench/run has built in DIR, in x86-64 instructions, and prints the tables.
 measure.py DIR rest FILE..: measures rest on other guards, one a line.
 
 The count is of one pass over a corpus, less the same program's pass that calls nothing. It repeats under any load.
 """
 import os
+import platform
 import re
 import subprocess
 import sys
@@ -23,8 +24,13 @@ def run(*command):
 
 def instructions(*command):
     """How many instructions a command executes, and what it prints."""
-    done = run("valgrind", "--tool=cachegrind", "--cache-sim=no", "--cachegrind-out-file=/dev/null", *command)
-    return int(re.search(r"I\s+refs:\s+([\d,]+)", done.stderr).group(1).replace(",", "")), done.stdout
+    if platform.machine() == "x86_64":
+        done = run("valgrind", "--tool=cachegrind", "--cache-sim=no", "--cachegrind-out-file=/dev/null", *command)
+        counted = re.search(r"I\s+refs:\s+([\d,]+)", done.stderr)
+    else:
+        done = run("qemu-x86_64", "-plugin", os.path.join(sys.argv[1], "libcount.so"), *command)
+        counted = re.search(r"instructions (\d+)", done.stderr)
+    return int(counted.group(1).replace(",", "")), done.stdout
 
 
 def cost(program, corpus, service):
@@ -35,39 +41,37 @@ def cost(program, corpus, service):
     return busy - idle, said
 
 
-def services(folder, ours):
-    """A row for each service and corpus; answers whether all sums of answers agree."""
+def both(folder, name, service):
+    """The instructions of a service by the plain C program and by the project over a corpus, its guards, and whether the answers agree."""
+    corpus = os.path.join(folder, name + ".txt")
+    plain, said = cost(os.path.join(folder, "baseline"), corpus, service)
+    ours, answers = cost(os.path.join(folder, "ours"), corpus, service)
+    return plain, ours, int(said.split()[0]), answers == said
+
+
+def table(first, rows):
+    """Prints a row for each label, corpus and what both need for it; answers whether all sums of answers agree."""
+    print(f"{first:10} {'corpus':14} {'guards':>6} {'plain C, a guard':>17} {'ours':>13} {'ratio':>6}")
     agree = True
-    print(f"{'service':10} {'corpus':8} {'guards':>6} {'plain C, a guard':>17}" + (f" {'ours':>13} {'ratio':>6}" if ours else ""))
-    for service in SERVICES:
-        for name in CORPORA:
-            if service + (name,) in LEFT_OUT:
-                continue
-            corpus = os.path.join(folder, name + ".txt")
-            plain, said = cost(os.path.join(folder, "baseline"), corpus, service)
-            guards = int(said.split()[0])
-            row = f"{' '.join(service):10} {name:8} {guards:6} {plain / guards:17,.0f}"
-            if ours:
-                count, answers = cost(os.path.join(folder, "ours"), corpus, service)
-                row += f" {count / guards:13,.0f} {count / plain:6.2f}" + ("" if answers == said else "   ANSWERS DIFFER")
-                agree = agree and answers == said
-            print(row, flush=True)
+    for label, name, (plain, ours, guards, same) in rows:
+        differ = "" if same else "   ANSWERS DIFFER"
+        print(f"{label:10} {name:14} {guards:6} {plain / guards:17,.0f} {ours / guards:13,.0f} {ours / plain:6.2f}{differ}", flush=True)
+        agree = agree and same
     return agree
+
+
+def services(folder):
+    """A row for each service and corpus."""
+    measured = [(service, name) for service in SERVICES for name in CORPORA if service + (name,) not in LEFT_OUT]
+    return table("service", ((" ".join(service), name, both(folder, name, service)) for service, name in measured))
 
 
 def rest(folder, names):
-    """A row for each corpus: rest, in instructions for each triplet that is looked at."""
-    program = os.path.join(folder, "rest")
-    agree = True
-    print(f"{'rest':4} {'corpus':15} {'relations':>9} {'steps':>9} {'plain C, a step':>16} {'ours':>6} {'ratio':>6}")
-    for name in names:
-        corpus = os.path.join(folder, name + ".txt")
-        relations, steps, differing = (int(word) for word in run(program, "compare", corpus).stdout.split())
-        plain, ours = (cost(program, corpus, (mode,))[0] for mode in ("plain", "ours"))
-        differ = f"   {differing} RELATIONS DIFFER" if differing else ""
-        print(f"{'':4} {name:15} {relations:9} {steps:9} {plain / steps:16.1f} {ours / steps:6.1f} {ours / plain:6.2f}{differ}", flush=True)
-        agree = agree and differing == 0
-    return agree
+    """A row for each corpus: check at depth 0 less read, which is what joining, rest and the trial of the flags cost."""
+    def row(name):
+        check, read = both(folder, name, ("check", "0")), both(folder, name, ("read",))
+        return "", name, (check[0] - read[0], check[1] - read[1], check[2], check[3] and read[3])
+    return table("rest", (row(name) for name in names))
 
 
 def taken_in(folder, path):
@@ -83,4 +87,4 @@ if __name__ == "__main__":
         sys.exit(0 if rest(sys.argv[1], [taken_in(sys.argv[1], path) for path in sys.argv[3:]]) else 1)
     rests = rest(sys.argv[1], CORPORA)
     print()
-    sys.exit(0 if services(sys.argv[1], "ours" in sys.argv[2:]) and rests else 1)
+    sys.exit(0 if services(sys.argv[1]) and rests else 1)

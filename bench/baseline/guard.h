@@ -32,6 +32,5 @@ uint64_t gaps_list(const struct guard *g, uint64_t start, uint32_t *out, size_t 
 
 /* saturate.c */
 uint64_t saturation_answer(const struct guard *g, unsigned depth);
-unsigned plain_rest(uint16_t *of, const uint16_t *triplets, unsigned count);                /* the number of steps */
 
 #endif

@@ -105,15 +105,14 @@ static unsigned step(uint16_t *of, unsigned size, unsigned kind, unsigned x, uns
     return news | join(of, size, z, named(entry[2], x, y, z));
 }
 
-unsigned plain_rest(uint16_t *of, const uint16_t *triplets, unsigned count)
+static void rest(uint16_t *of, const uint16_t *triplets, unsigned count)
 {
-    unsigned steps = 0, news;
+    unsigned news;
     do {
         news = 0;
-        for (unsigned j = 0; j < count && of[0] != 1; j++, steps++)
+        for (unsigned j = 0; j < count && of[0] != 1; j++)
             news |= step(of, FIRST + count, triplets[3 * j], 2 * (FIRST + j), triplets[3 * j + 1], triplets[3 * j + 2]);
     } while (news);
-    return steps;
 }
 
 /* what one and other share, into one; neither is contradictory */
@@ -153,7 +152,7 @@ static void share(uint16_t *one, const uint16_t *other, unsigned size)
 static void saturate(const struct problem *p, uint16_t *of, unsigned depth)
 {
     unsigned news = 1;
-    plain_rest(of, p->g->triplets, p->g->count);
+    rest(of, p->g->triplets, p->g->count);
     while (depth && news) {
         news = 0;
         for (unsigned f = 1; f <= p->g->flags && of[0] != 1; f++) {
@@ -172,7 +171,7 @@ static void saturate(const struct problem *p, uint16_t *of, unsigned depth)
                 share(no, yes, p->size);
             if (memcmp(of, no, p->size * sizeof *of)) {
                 memcpy(of, no, p->size * sizeof *of);
-                plain_rest(of, p->g->triplets, p->g->count);
+                rest(of, p->g->triplets, p->g->count);
                 news = 1;
             }
         }

@@ -1,6 +1,6 @@
 -- What an array of classes keeps is a relation, and each literal equals the one to which it leads.
 use Prim.Native.Nat.{ℕ, zero, suc, _+_, _*_, _/_, _%_, _≤_, _<_}
-use mathlib.Core.Path.{_≡_, refl, sym, _∙_, ap, ap₂, subst, fun-ext}
+use mathlib.Core.Path.{_≡_, refl, sym, _∙_, ap, ap₂}
 use mathlib.Core.Bool.{true, false}
 use mathlib.Core.Logic.{_⊎_, inl, inr, ⊎-elim}
 use mathlib.Core.List.{List, [], _∷_}
@@ -13,9 +13,9 @@ use borrow.Author.Tests.{eqb-true, eqb-false, eq-eqb, lt-ltb, ltb-true}
 use Rattle.notation.specs.Triplets.{negation, signed}
 use Rattle.relation.specs.Relation.{Rel, IsRelation}
 use Rattle.relation.specs.Classes.{variableCeiling, entry, lead, relation, contradictory, Canonical, Classes}
-use Rattle.relation.specs.Contracts.{Lower, Alike, tied}
+use Rattle.relation.specs.Contracts.{Lower, tied}
 use Rattle.relation.proofs.RelationLaws.{bool-eq}
-use Rattle.notation.proofs.Cases.{either, split-eq, lt-or-ge, never}
+use Rattle.notation.proofs.Cases.{either, split-eq, lt-or-ge}
 use Rattle.notation.proofs.Shaped.{negation-half}
 use Rattle.relation.proofs.LiteralLaws.{sign-cases, signed-even, signed-odd, signed-half, signed-sign, literal-eq, negation-sign, negation-differs}
 
@@ -174,57 +174,6 @@ contradictory-is f =
     bool-eq (contradictory f) (relation f 0 1) (λ c. relation-all f c 0 1)
     (λ e.
     ⊎-elim (λ (c : contradictory f ≡ true). c) (λ (c : contradictory f ≡ false). absurd (apart f c e)) (either (contradictory f)))
-
--- two canonical arrays that keep the same relation, not a contradictory one, are the same
-pub canonical-unique : (n : ℕ) (f g : ℕ → ℕ) → Canonical n f → Canonical n g → contradictory f ≡ false → ((l m : ℕ) → relation f l m ≡ relation g l m) → (v : ℕ) → f v ≡ g v
-canonical-unique n f g k k′ c e v =
-    sym fixed ∙ sym there
-  where
-    c′ : contradictory g ≡ false
-    c′ = ⊎-elim (λ (d : contradictory g ≡ true). absurd (apart f c (e 0 1 ∙ relation-all g d 0 1))) (λ (d : contradictory g ≡ false). d) (either (contradictory g))
-
-    there : g v ≡ lead g (f v)
-    there =
-        sym (lead-variable g v)
-        ∙ same-leads g c′ (2 * v) (lead f (2 * v)) (sym (e (2 * v) (lead f (2 * v))) ∙ leads-to n f k (2 * v))
-        ∙ ap (lead g) (lead-variable f v)
-
-    back : f v ≡ lead f (g v)
-    back =
-        sym (lead-variable f v)
-        ∙ same-leads f c (2 * v) (lead g (2 * v)) (e (2 * v) (lead g (2 * v)) ∙ leads-to n g k′ (2 * v))
-        ∙ ap (lead f) (lead-variable g v)
-
-    halves : g v / 2 ≡ f v / 2
-    halves = omega (arith, there, back, lead-half g (f v), lead-half f (g v), k .lower (g v / 2), k′ .lower (f v / 2))
-
-    own : g (f v / 2) ≡ 2 * (f v / 2)
-    own = subst (λ (u : ℕ). g u ≡ 2 * u) halves (leader-stands n g k′ c′ v)
-
-    fixed : lead g (f v) ≡ f v
-    fixed = lead-is g (f v) (f v) (ap (λ (w : ℕ). w / 2) own ∙ omega arith) (omega (arith, own))
-
--- whether two canonical arrays keep the same relation
-pub alike-contradictory : (f g : ℕ → ℕ) → contradictory f ≡ true → Alike (relation f) (relation g) (contradictory g)
-alike-contradictory f g c =
-    record {
-      same = λ d l m. relation-all f c l m ∙ sym (relation-all g d l m);
-      other = λ d e. apart g d (sym (e 0 1) ∙ relation-all f c 0 1);
-    }
-
-pub alike-not : (n : ℕ) (f g : ℕ → ℕ) → Canonical n f → Canonical n g → contradictory f ≡ false → (v : ℕ) → (f v ≡ g v → ⊥) → Alike (relation f) (relation g) false
-alike-not n f g k k′ c v d =
-    record {
-      same = λ e. absurd (never false e refl);
-      other = λ e all. d (canonical-unique n f g k k′ c all v);
-    }
-
-pub alike-same : (f g : ℕ → ℕ) → ((v : ℕ) → f v ≡ g v) → Alike (relation f) (relation g) true
-alike-same f g e =
-    record {
-      same = λ d l m. ap (λ (h : ℕ → ℕ). relation h l m) (fun-ext e);
-      other = λ d all. never true refl d;
-    }
 
 -- a variable is tied where it equals true or false
 pub tied-cases : (R : Rel) (v : ℕ) → tied R v ≡ true → (R (2 * v) 0 ≡ true) ⊎ (R (2 * v) 1 ≡ true)

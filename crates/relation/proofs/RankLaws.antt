@@ -9,9 +9,8 @@ use lib.Dec.{eqb}
 use borrow.Author.Tests.{eq-eqb, ne-eqb}
 use Rattle.notation.specs.Tokens.{choose}
 use Rattle.relation.specs.Relation.{Within}
-use Rattle.relation.specs.Least.{Least, Holds}
 use Rattle.relation.specs.Classes.{lead, relation, contradictory, Canonical, own, rank}
-use Rattle.notation.proofs.Cases.{either, split-eq, lt-or-ge, never}
+use Rattle.notation.proofs.Cases.{either, split-eq, lt-or-ge}
 use Rattle.relation.proofs.RelationLaws.{across}
 use Rattle.relation.proofs.ClassLaws.{lead-half, lead-is, lead-variable, relation-all, same-leads, leads-same, is-relation, leader-stands, leads-to}
 
@@ -198,11 +197,3 @@ rank-settles n f g k k′ w h =
             (λ (p : v < n). count .converse as-many v p e)
             (λ (p : n ≤ v). k′ .beyond v p)
             (lt-or-ge v n)
-
--- the rank falls with each join of unequal literals
-pub join-falls : (n : ℕ) (f g : ℕ → ℕ) (l m : ℕ) → Canonical n f → Canonical n g → Least (Holds l m) (relation f) (relation g) → relation f l m ≡ false → rank n g < rank n f
-join-falls n f g l m k k′ s d =
-    ⊎-elim
-    (λ (p : rank n g < rank n f). p)
-    (λ (p : rank n f ≤ rank n g). absurd (never (relation f l m) (rank-settles n f g k k′ (s .above) p l m (s .has)) d))
-    (lt-or-ge (rank n g) (rank n f))

@@ -40,12 +40,6 @@ signed-twice w s = literal-eq (signed (signed w s) s) w (signed-half (signed w s
 abbrev pub agrees : (ℕ → ℕ) → (ℕ → ℕ) → ℕ → ℕ → ℕ → Bool
 agrees f g v u s = choose (eqb (signed (f u) s) (f v)) (eqb (signed (g u) s) (g v)) false
 
--- a literal of u that leads where v does has the sign that is tested
-found-sign : (c a k : ℕ) → signed c k ≡ a → signed c ((a + c) % 2) ≡ a
-found-sign c a k e =
-    literal-eq (signed c ((a + c) % 2)) a (signed-half c ((a + c) % 2) ∙ sym (signed-half c k) ∙ ap (λ (w : ℕ). w / 2) e)
-    (omega (arith, signed-sign c ((a + c) % 2)))
-
 -- that sign is the literal's own
 own-sign : (c a k : ℕ) → signed c k ≡ a → (a + c) % 2 ≡ k % 2
 own-sign c a k e =

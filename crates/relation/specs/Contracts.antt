@@ -54,11 +54,6 @@ pub record Shared (n : ℕ) (xs ys zs : List ℕ) : Type 0 where
   pub classes : Classes n zs
   pub both : (l m : ℕ) → kept zs l m ≡ common (kept xs) (kept ys) l m
 
--- b says whether two relations hold the same equalities
-pub record Alike (R S : Rel) (b : Bool) : Type 0 where
-  pub same : b ≡ true → (l m : ℕ) → R l m ≡ S l m
-  pub other : b ≡ false → ((l m : ℕ) → R l m ≡ S l m) → ⊥
-
 -- the variable v is tied to true or to false
 unfoldable pub tied : Rel → ℕ → Bool
 tied R v = choose (R (2 * v) 0) true (R (2 * v) 1)

@@ -1,12 +1,9 @@
-// The rank of a relation, and whether two relations are the same.
+// The rank of a relation.
 use notation::ceilings::VARIABLES;
 ghost use mathlib.Core.Path.{_≡_};
-ghost use mathlib.Core.Bool.{true, false};
-ghost use Prim.Native.Nat.{_<_};
 ghost use lib.Dec.{eqb};
 ghost use Rattle.notation.specs.Tokens.{choose};
-ghost use Rattle.relation.specs.Classes.{Classes, entry, kept, rank};
-ghost use Rattle.relation.specs.Contracts.{Alike};
+ghost use Rattle.relation.specs.Classes.{Classes, entry, rank};
 
 // 1 where a variable with the literal own leads to that, else 0.
 fn stands(w: u16, own: u16) -> u16
@@ -35,23 +32,4 @@ pub fn size_of(of: &[u16; VARIABLES], size: usize) -> u16
         v += 1;
     }
     count
-}
-
-// Whether two relations are the same: canonical arrays are, where neither is contradictory.
-pub fn is_same(of: &[u16; VARIABLES], other: &[u16; VARIABLES], size: usize) -> bool
-    requires { ⌜ Classes size (now of) ⌝ }
-    requires { ⌜ Classes size (now other) ⌝ }
-    ensures { λ r. ⌜ Alike (kept (now (of .entry))) (kept (now (other .entry))) r ⌝ }
-{
-    if of[0] == 1 {
-        return other[0] == 1;
-    }
-    let mut v: usize = 0;
-    while v < size {
-        if of[v] != other[v] {
-            return false;
-        }
-        v += 1;
-    }
-    true
 }

@@ -6,10 +6,8 @@ pub mod Truth
 pub mod Fixed
 pub mod States
 pub mod Valuations
-pub mod Decided
 pub mod Verdicts
 pub mod Enough
-pub mod Untied
 pub mod Confirmed
 pub mod Demands
 pub mod Slips

@@ -33,24 +33,6 @@ module _ (D : ℕ → Type 0) (ts : List Triplet) where
     pub split-held : ((l m : ℕ) → T l m ≡ true → F l m ≡ true → S l m ≡ true) → HoldsSplit D ts k f S
     split-held h l m p q = h l m (saturated-held D ts k (taking S (2 * f)) T on l m .1 p) (saturated-held D ts k (taking S (2 * f + 1)) F off l m .1 q)
 
-  -- what is taken in place of an equal literal
-  taking-equal : (S A : Rel) (a b : ℕ) → IsRelation A → S a b ≡ true → Within (taking S b) A → Within (taking S a) A
-  taking-equal S A a b r e w =
-      let above : Within S A = taking-above S A b w in
-      above-taking S A a above (r .transitive a b 0 (above a b e) (taking-holds S A b w))
-
-  saturated-equal : (k : ℕ) (S : Rel) (a b l m : ℕ) → S a b ≡ true → Saturated D ts k (taking S a) l m → Saturated D ts k (taking S b) l m
-  saturated-equal k S a b l m e s A r w h = s A r (taking-equal S A a b r e w) h
-
-  -- a split on one variable of a class serves for the others: f equals g, or its negation
-  pub split-alike : (k f g : ℕ) (S : Rel) → S (2 * f) (2 * g) ≡ true → S (2 * f + 1) (2 * g + 1) ≡ true → HoldsSplit D ts k g S → HoldsSplit D ts k f S
-  split-alike k f g S e d h l m p q =
-      h l m (saturated-equal k S (2 * f) (2 * g) l m e p) (saturated-equal k S (2 * f + 1) (2 * g + 1) l m d q)
-
-  pub split-opposite : (k f g : ℕ) (S : Rel) → S (2 * f) (2 * g + 1) ≡ true → S (2 * f + 1) (2 * g) ≡ true → HoldsSplit D ts k g S → HoldsSplit D ts k f S
-  split-opposite k f g S e d h l m p q =
-      h l m (saturated-equal k S (2 * f + 1) (2 * g) l m d q) (saturated-equal k S (2 * f) (2 * g + 1) l m e p)
-
   -- the trial goes on from what is saturated: adding a literal to that is adding it to the assumptions
   module _ (root k : ℕ) (ls : List ℕ) (T : Rel) (saturated : SaturationOf D ts k (taken (negation root ∷ ls)) T) where
     pub refuted-held : (T 0 1 ≡ true) ↔ Refuted D ts root k ls

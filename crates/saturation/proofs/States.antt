@@ -1,7 +1,7 @@
 -- The flags of a state, as bits and as literals: those of its first flags are those of a shorter state.
 use Prim.Native.Nat.{ℕ, zero, suc, _+_, _*_, _-_, _/_, _%_, _^_, _≤_, _<_}
-use mathlib.Core.Path.{_≡_, refl, sym, ap, _∙_}
-use mathlib.Core.Bool.{Bool, true, false, not}
+use mathlib.Core.Path.{_≡_, refl, ap, _∙_}
+use mathlib.Core.Bool.{Bool, true, not}
 use mathlib.Core.List.{List, [], _∷_}
 use mathlib.Core.Logic.{⊎-elim}
 use native.Mathlib.Omega.{arith}
@@ -10,7 +10,7 @@ use lib.Dec.{eqb}
 use lib.Pow.{shr-shr}
 use Rattle.notation.specs.Triplets.{negation}
 use Rattle.relation.specs.Relation.{Rel, IsRelation, Within}
-use Rattle.notation.proofs.Cases.{either, split-eq}
+use Rattle.notation.proofs.Cases.{split-eq}
 use Rattle.truth.specs.Value.{bit}
 use Rattle.truth.specs.Computed.{literalValue}
 use Rattle.truth.proofs.Literals.{literal-even, literal-odd, parity}
@@ -86,44 +86,3 @@ module _ (n s : ℕ) (A : Rel) (relation : IsRelation A) where
 pub holds-more : (A B : Rel) (ls : List ℕ) → Within A B → HoldsAll A ls → HoldsAll B ls
 holds-more A B [] w h = tt
 holds-more A B (l ∷ ls) w h = (w l 0 (h .0), holds-more A B ls w (h .1))
-
--- one flag more: the bits of the flags before it stay
-bit-before : (m i p b : ℕ) → b < 2 → i ≤ m → bit (2 * p + b) (suc m - i) ≡ bit p (m - i)
-unfolding bit
-bit-before m i p b h q =
-    let e : suc m - i ≡ 1 + (m - i) = omega arith in
-    let half : (2 * p + b) / 2 ≡ p = omega arith in
-    let deeper : (2 * p + b) / 2 ^ (suc m - i) ≡ p / 2 ^ (m - i) = rw (← e, half) at (sym (shr-shr (2 * p + b) 1 (m - i))) in
-    ap (λ (t : ℕ). eqb (t % 2) 1) deeper
-
-bit-last : (m p b : ℕ) → b < 2 → bit (2 * p + b) (m - m) ≡ eqb b 1
-unfolding bit
-bit-last m p b h =
-    let e : m - m ≡ 0 = omega arith in
-    let one : (2 * p + b) / 1 % 2 ≡ b = rw (div-one (2 * p + b)) (omega arith) in
-    rw e (ap (λ (t : ℕ). eqb t 1) one)
-
--- s is a state of n flags with the bits that b gives
-abbrev pub BitsOf : ℕ → (ℕ → Bool) → ℕ → Type 0
-BitsOf n b s = (s < 2 ^ n) × ((i : ℕ) → 0 < i → i ≤ n → bit s (n - i) ≡ b i)
-
-one-more : (n : ℕ) (b : ℕ → Bool) (s r : ℕ) → BitsOf n b s → r < 2 → eqb r 1 ≡ b (suc n) → BitsOf (suc n) b (2 * s + r)
-one-more n b s r h k e =
-    let double : 2 ^ suc n ≡ 2 * 2 ^ n = omega arith in (
-      rw double (omega (arith, h .0)),
-      λ i p q.
-          ⊎-elim
-          (λ (d : i ≡ suc n). rw d (bit-last (suc n) s r k ∙ e))
-          (λ (d : i ≡ suc n → ⊥). bit-before n i s r k (omega arith) ∙ h .1 i p (omega arith))
-          (split-eq i (suc n)),
-    )
-
--- every choice of bits is a state
-pub state-of : (n : ℕ) (b : ℕ → Bool) → (s : ℕ) × BitsOf n b s
-state-of zero b = (0, (omega arith, λ i p q. absurd (omega arith)))
-state-of (suc n) b =
-    let before : (s : ℕ) × BitsOf n b s = state-of n b in
-    ⊎-elim
-    (λ (e : b (suc n) ≡ true). (2 * before .0 + 1, one-more n b (before .0) 1 (before .1) (omega arith) (sym e)))
-    (λ (e : b (suc n) ≡ false). (2 * before .0 + 0, one-more n b (before .0) 0 (before .1) (omega arith) (sym e)))
-    (either (b (suc n)))

@@ -363,7 +363,7 @@ bracket-level-returns t c =
     let args· = c .before .before .before .before .before .args in
     let pre· = c .before .before .before .before .before .pre in
     let if1· = c .before .if1 in
-    bracket-refused (args· .text .now) (args· .at) (pre· .1 .1) (args· .brackets) _ _ (if1· .taken)
+    bracket-refused (args· .text .now) (args· .at) (pre· .1 .1) (args· .brackets) _ _ (omega (arith, if1· .taken))
 
 bracket-level-advanced-requires : (t : ℕ) → bracket-level-lts.Need-advanced-requires (bracket-level-in t) (bracket-level-at t) bracket-level.Post
 bracket-level-advanced-requires t c κs =
@@ -383,7 +383,7 @@ bracket-level-returns-2 t c =
     let enum-told· = c .enum-told in
     let pre· = c .before .before .before .before .before .before .before .pre in
     let if1· = c .before .before .before .if1 in
-    refused-as (plain (operandsAt (args· .brackets))) (args· .brackets) 0 (args· .text .now) (args· .at) (args· .codes .now) (args· .out .now) (advanced· .result) (args· .codes .now) (args· .out .now) _ (enum-told· .given .1) (bracket-walked (args· .text .now) (args· .at) (pre· .1 .1) (args· .brackets) _ _ (if1· .left) ∙ (subst (λ (x : Operand). AdvancedSays (args· .text .now) (args· .at) 0 x) (enum-told· .given .1) (advanced· .ensures)) operand-wanted ((args· .brackets) + 1) _ _)
+    refused-as (plain (operandsAt (args· .brackets))) (args· .brackets) 0 (args· .text .now) (args· .at) (args· .codes .now) (args· .out .now) (advanced· .result) (args· .codes .now) (args· .out .now) _ (enum-told· .given .1) (bracket-walked (args· .text .now) (args· .at) (pre· .1 .1) (args· .brackets) _ _ (omega (arith, if1· .left)) ∙ (subst (λ (x : Operand). AdvancedSays (args· .text .now) (args· .at) 0 x) (enum-told· .given .1) (advanced· .ensures)) operand-wanted ((args· .brackets) + 1) _ _)
 
 bracket-level-add-same-level : (t : ℕ) → bracket-level-lts.Need-add-same-level (bracket-level-in t) (bracket-level-at t) bracket-level.Post
 bracket-level-add-same-level t c =

@@ -10,6 +10,7 @@ use Rattle.notation.specs.Ceilings.{textCeiling}
 use Rattle.notation.specs.declared.tokens.Cut.{Cut}
 use Rattle.levels.proofs.Joining.{found-of, refused-of}
 use Rattle.reading.proofs.Parsing.{too-long, asks-first, atFirst, faulty-first, refused-first, parse-says}
+use native.Mathlib.Omega.{arith}
 use borrow.Author.Needs.{needs}
 use Rattle.reading.proofs.parse.parse.Statement.{statement}
 use Rattle.reading.proofs.parse.parse.Tie as tie
@@ -18,7 +19,7 @@ returns : tie.Need-returns
 returns c =
     let args· = c .before .before .before .before .args in
     let if1· = c .if1 in
-    subst (λ (x : Reading). ParseSays (args· .text .now) x (refusedWith 1 textCeiling) (args· .codes .now) (args· .out .now)) (sym (too-long (args· .text .now) (if1· .taken))) refl
+    subst (λ (x : Reading). ParseSays (args· .text .now) x (refusedWith 1 textCeiling) (args· .codes .now) (args· .out .now)) (sym (too-long (args· .text .now) (omega (arith, if1· .taken)))) refl
 
 token-at-requires : tie.Need-token-at-requires
 token-at-requires c κs = search needs
@@ -44,7 +45,7 @@ returns-2 c =
     let unread· = c .unread in
     let passed-on· = c .before .passed-on in
     let e = enum-told· .given .1 in
-    faulty-first (args· .text .now) (if1· .left) _ (subst (λ (x : Cut). CutSays (args· .text .now) 0 x) e (token-at· .ensures)) (unread· .result)
+    faulty-first (args· .text .now) (omega (arith, if1· .left)) _ (subst (λ (x : Cut). CutSays (args· .text .now) 0 x) e (token-at· .ensures)) (unread· .result)
     (unread· .ensures ∙ ap unreadAs (passed-on· .ensures ∙ ap passedOn e)) (args· .codes .now) (args· .out .now)
 
 same-level-requires : tie.Need-same-level-requires
@@ -83,7 +84,7 @@ returns-3 c =
     let n = subst (λ (x : Cut). CutSays (args· .text .now) 0 x) (cut· .given .1) (token-at· .ensures) in
     let C = same-level· .last .1 .1 .1 .0 in
     let O = same-level· .last .1 .1 .1 .1 .0 in
-    refused-first (args· .text .now) (if1· .left) t n (args· .codes .now) (args· .out .now) C O _
+    refused-first (args· .text .now) (omega (arith, if1· .left)) t n (args· .codes .now) (args· .out .now) C O _
     (refused-of (plain (sameOf (operandsAt 0))) 0 4 (args· .text .now) (atFirst t) (args· .codes .now) (args· .out .now) (same-level· .result) C O (same-level· .ensures) _ (enum-told2· .given .1))
     (unread2· .result) (unread2· .ensures ∙ ap unreadAs (enum-told2· .given .1))
 
@@ -109,7 +110,7 @@ returns-4 c =
     let n = subst (λ (x : Cut). CutSays (args· .text .now) 0 x) (cut· .given .1) (token-at· .ensures) in
     let C = same-level· .last .1 .1 .1 .0 in
     let O = same-level· .last .1 .1 .1 .1 .0 in
-    parse-says (args· .text .now) (if1· .left) t n (args· .codes .now) (args· .out .now) C O _
+    parse-says (args· .text .now) (omega (arith, if1· .left)) t n (args· .codes .now) (args· .out .now) C O _
     (found-of (plain (sameOf (operandsAt 0))) 0 4 (args· .text .now) (atFirst t) (args· .codes .now) (args· .out .now) (same-level· .result) C O (same-level· .ensures) _ (whole· .given .1))
     (ended· .result) (ended· .ensures)
 

@@ -3,6 +3,7 @@ use Prim.Native.Nat.{_≤_}
 use Rattle.notation.specs.Ceilings.{connectiveCeiling}
 use Rattle.notation.specs.Reading.{reading}
 use Rattle.reading.proofs.Serving.{guard-found, refusal-found, length-few, read-refused, read-small, read-fits}
+use native.Mathlib.Omega.{arith}
 use borrow.Author.Needs.{needs}
 use Rattle.reading.proofs.read.read.Statement.{statement}
 use Rattle.reading.proofs.read.read.Tie as tie
@@ -49,7 +50,7 @@ returns-2 c =
     let if1· = c .if1 in
     let C = parse· .last .1 .0 in
     let O = parse· .last .1 .1 .0 in
-    read-small (args· .text .now) (args· .room .now) (parsed· .given .0 .0) C O (guard-found (args· .text .now) (reading (args· .text .now)) (parse· .result) C O (parse· .ensures) (parsed· .given .0 .0) (parsed· .given .1)) (if1· .taken)
+    read-small (args· .text .now) (args· .room .now) (parsed· .given .0 .0) C O (guard-found (args· .text .now) (reading (args· .text .now)) (parse· .result) C O (parse· .ensures) (parsed· .given .0 .0) (parsed· .given .1)) (omega (arith, if1· .taken))
 
 slice-aggregate-copy : tie.Need-slice-aggregate-copy
 slice-aggregate-copy c = search needs
@@ -76,7 +77,7 @@ returns-3 c =
     let copy· = c .before .before .copy in
     let C = parse· .last .1 .0 in
     let O = parse· .last .1 .1 .0 in
-    read-fits (args· .text .now) (args· .room .now) (parsed· .given .0 .0) C O (guard-found (args· .text .now) (reading (args· .text .now)) (parse· .result) C O (parse· .ensures) (parsed· .given .0 .0) (parsed· .given .1)) (if1· .left) (copy· .last .1 .0) (copy· .ensures)
+    read-fits (args· .text .now) (args· .room .now) (parsed· .given .0 .0) C O (guard-found (args· .text .now) (reading (args· .text .now)) (parse· .result) C O (parse· .ensures) (parsed· .given .0 .0) (parsed· .given .1)) (omega (arith, if1· .left)) (copy· .last .1 .0) (copy· .ensures)
 
 pub read-spec : {M : Type 1} → statement M
 read-spec =

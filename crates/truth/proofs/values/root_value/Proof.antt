@@ -92,7 +92,7 @@ literal-value-requires c κs =
     let args· = c .before .before .before .before .before .before .before .args in
     let pre· = c .before .before .before .before .before .before .before .pre in
     let loop· = c .before .before .loop in
-    root-known (args· .n) (args· .state) (args· .count) (args· .root) (args· .triplets .now) (pre·) _ (loop· .inv .1)
+    omega (arith, root-known (args· .n) (args· .state) (args· .count) (args· .root) (args· .triplets .now) (pre·) _ (loop· .inv .1), loop· .inv .1)
 
 returns : tie.Need-returns Inv-loop μ-loop
 returns c =
