@@ -17,7 +17,7 @@ LAW = re.compile(r"`([a-z_]+/(?:specs|proofs)/(?:contracts/)?[A-Za-z]+\.antt)`, 
 # A name by itself is a law's or a definition's where it has a hyphen or a capital inside or first; with a module before it, it is of that module.
 NAME = re.compile(r"`(?:([A-Z][A-Za-z]+)\.)?([a-z]+(?:-[a-z0-9]+)+|[a-z]*[A-Z][A-Za-z]+|[a-z]+)`")
 COUNTED = re.compile(r"`([a-z_]+/specs/[A-Za-z]+\.antt)` (\d+)")
-BELIEVED = re.compile(r"^\| ([a-z]+) \| ((?:[^|]*`[a-z_]+/specs/[^|]*)) \| (\d+) \|$", re.M)
+BELIEVED = re.compile(r"^\| ([a-z]+) \| (?:those of ([a-z]+), )?([^|]*`[a-z_]+/specs/[^|]*) \| (\d+) \|$", re.M)
 CEILINGS = {"read": 300, "list": 300, "check": 400}
 DECLARED = r"^ *(?:(?:abbrev |unfoldable )?pub )?(?:record |data )?{}(?: [a-z-]+)* (?::|\(|\{{)"
 
@@ -48,7 +48,9 @@ def laws_of(text, known):
     for path, law in LAW.findall(text):
         yield f"{law} of {path}", there(path) and declares(read(os.path.join("crates", path)), law)
     for module, name in NAME.findall(text):
-        if module:
+        if name == "antt":
+            yield f"{module}.antt", any(path.endswith(f"/{module}.antt") for path in known)
+        elif module:
             yield f"{module}.{name}", any(declares(source, name) for path, source in known.items() if path.endswith(f"/{module}.antt"))
         elif not name.isalpha() or not name.islower():
             yield name, any(declares(source, name) for source in known.values())
@@ -61,14 +63,15 @@ def lines_of(path):
 
 
 def believed(text):
-    rows = BELIEVED.findall(text)
-    for service, cell, total in rows:
+    totals = {"": 0}
+    for what, base, cell, total in BELIEVED.findall(text):
         counted = [(path, int(lines)) for path, lines in COUNTED.findall(cell)]
         for path, lines in counted:
-            yield f"{service}: {path} with {lines} lines", there(path) and lines_of(path) == lines
-        yield f"{service}: {total} lines in all", sum(lines for _, lines in counted) == int(total)
+            yield f"{what}: {path} with {lines} lines", there(path) and lines_of(path) == lines
+        totals[what] = totals[base] + sum(lines for _, lines in counted)
+        yield f"{what}: {total} lines in all", totals[what] == int(total)
     for service, most in CEILINGS.items():
-        yield f"{service} within {most} lines", any(int(total) <= most for name, _, total in rows if name == service)
+        yield f"{service} within {most} lines", totals.get(service, most + 1) <= most
 
 
 def main():

@@ -4,7 +4,7 @@ use native.Mathlib.Omega.{arith}
 use mathlib.Core.Path.{_≡_, subst}
 use mathlib.Core.List.{List}
 use lib.ListN.{length, take, drop, length-take, length-drop}
-use Rattle.covercheck.specs.Calls.{MovedSays, InputSays}
+use Rattle.covercheck.specs.contracts.Calls.{MovedSays, InputSays}
 use Rattle.covercheck.specs.declared.calls.Moved.{Moved}
 use Rattle.covercheck.specs.declared.calls.Moved.the-variants.{Bytes}
 use Rattle.covercheck.specs.declared.input.Input.{Input}

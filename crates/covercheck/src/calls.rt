@@ -1,6 +1,6 @@
 // One read or one write of the operating system: an interrupted one is made again, and one that would block waits.
 ghost use lib.ListN.{length};
-ghost use Rattle.covercheck.specs.Calls.{MovedSays};
+ghost use Rattle.covercheck.specs.contracts.Calls.{MovedSays};
 
 // How many bytes were moved, or that the call failed.
 pub enum Moved {

@@ -2,7 +2,7 @@
 use crate::calls::Moved;
 use crate::calls::read_some;
 ghost use lib.ListN.{length};
-ghost use Rattle.covercheck.specs.Calls.{InputSays};
+ghost use Rattle.covercheck.specs.contracts.Calls.{InputSays};
 
 // The input ended after so many bytes; it filled the slice before it ended; or a read failed.
 pub enum Input {

@@ -11,9 +11,9 @@ use lines::cut::line_end;
 use output::write_whole;
 ghost use Prim.Native.Nat.{_≤_, _<_};
 ghost use lib.ListN.{length};
-ghost use Rattle.lines.specs.Lines.{LineAt};
+ghost use Rattle.lines.specs.contracts.Cutting.{LineAt};
 ghost use Rattle.lines.specs.Output.{inputCeiling};
-ghost use Rattle.covercheck.specs.Ending.{EndingSays};
+ghost use Rattle.covercheck.specs.contracts.Ending.{EndingSays};
 
 // Bytes of an input.
 const INPUT: usize = 65536;

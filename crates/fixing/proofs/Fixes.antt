@@ -9,12 +9,12 @@ use native.Mathlib.Nat.{eq-or-lt-of-le}
 use lib.ListN.{getD}
 use Rattle.notation.specs.Ceilings.{flagCeiling}
 use Rattle.notation.specs.Triplets.{tripletVariable, negation}
-use Rattle.notation.specs.Shape.{Names, Shape, kindAt, yAt, zAt}
+use Rattle.notation.specs.contracts.Shape.{Names, Shape, kindAt, yAt, zAt}
 use Rattle.truth.specs.Value.{bit}
-use Rattle.truth.specs.Computed.{literalValue, gate, computed}
+use Rattle.truth.specs.contracts.Computed.{literalValue, gate, computed}
 use Rattle.truth.proofs.Literals.{parity, literal-even, literal-odd, literal-negation, literal-agrees}
 use Rattle.truth.proofs.Computing.{named-kept, named-cases, valued, computed-same, triplet-made, flag-kept, true-at-start, flag-at-start}
-use Rattle.fixing.specs.Fixing.{Stands, Fixing, Fixed}
+use Rattle.fixing.specs.contracts.Fixing.{Stands, Fixing, Fixed}
 
 pub named-more : (n j k l : ℕ) → j ≤ k → Names n j l → Names n k l
 named-more n j k l h m =

@@ -11,11 +11,11 @@ use lib.Seq.{getD-set-same, getD-set-other}
 use Rattle.notation.specs.Tokens.{choose, same, implies}
 use Rattle.notation.specs.Triplets.{tripletVariable, negation}
 use Rattle.truth.specs.Value.{table}
-use Rattle.truth.specs.Computed.{literalValue, gate}
+use Rattle.truth.specs.contracts.Computed.{literalValue, gate}
 use Rattle.truth.proofs.Literals.{literal-even, literal-odd, literal-negation}
 use Rattle.notation.specs.Ceilings.{flagCeiling}
-use Rattle.notation.specs.Shape.{Names, kindAt, yAt, zAt}
-use Rattle.fixing.specs.Fixing.{Stands, Simplified, Put, StartedBy, TripletFixed, Fixing}
+use Rattle.notation.specs.contracts.Shape.{Names, kindAt, yAt, zAt}
+use Rattle.fixing.specs.contracts.Fixing.{Stands, Simplified, Put, StartedBy, TripletFixed, Fixing}
 use Rattle.truth.proofs.Computing.{named-below}
 use Rattle.fixing.proofs.Fixes.{negation-of, Started, fixing-stands, fixing-new}
 

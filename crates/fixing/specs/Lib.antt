@@ -1,1 +1,1 @@
-pub mod Fixing
+pub mod contracts

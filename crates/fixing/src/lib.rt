@@ -6,8 +6,8 @@ ghost use lib.ListN.{length};
 ghost use Rattle.notation.specs.Tokens.{choose};
 ghost use Rattle.notation.specs.Ceilings.{flagCeiling, connectiveCeiling};
 ghost use Rattle.notation.specs.Triplets.{tripletVariable, negation};
-ghost use Rattle.notation.specs.Shape.{Names, Shape};
-ghost use Rattle.fixing.specs.Fixing.{Simplified, Put, StartedBy, Operands, TripletFixed, Fixed};
+ghost use Rattle.notation.specs.contracts.Shape.{Names, Shape};
+ghost use Rattle.fixing.specs.contracts.Fixing.{Simplified, Put, StartedBy, Operands, TripletFixed, Fixed};
 
 // How many triplets are left, and what became of the root.
 pub struct Left {

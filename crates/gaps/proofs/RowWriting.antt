@@ -12,12 +12,12 @@ use lib.Dec.{eqb, ltb}
 use borrow.Author.Tests.{lt-ltb, le-ltb, ltb-true, ltb-false}
 use Rattle.notation.specs.Tokens.{choose}
 use Rattle.truth.specs.Value.{bit}
-use Rattle.truth.specs.Computed.{literalValue}
+use Rattle.truth.specs.contracts.Computed.{literalValue}
 use Rattle.gaps.specs.declared.writing.Found.{Found}
 use Rattle.gaps.specs.declared.writing.Found.the-variants.{Done, More}
 use Rattle.gaps.specs.Gaps.{falseFrom}
-use Rattle.rows.specs.Rows.{inRow, turned}
-use Rattle.gaps.specs.Writing.{Writes, since, wordsOf, LiveWord}
+use Rattle.rows.specs.contracts.Rows.{inRow, turned}
+use Rattle.gaps.specs.contracts.Rows.{Writes, since, wordsOf, LiveWord}
 use Rattle.rows.proofs.Bits.{bit-and}
 use Rattle.rows.proofs.Gates.{turned-other}
 use Rattle.gaps.proofs.Ascending.{false-none, false-parts}

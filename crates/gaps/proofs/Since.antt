@@ -11,7 +11,7 @@ use borrow.Author.Tests.{lt-ltb, le-ltb}
 use Rattle.notation.specs.Tokens.{choose}
 use Rattle.truth.specs.Value.{bit}
 use Rattle.gaps.specs.Gaps.{falseFrom}
-use Rattle.gaps.specs.Writing.{since, wordsOf, LiveWord}
+use Rattle.gaps.specs.contracts.Rows.{since, wordsOf, LiveWord}
 use Rattle.rows.proofs.Bits.{bit-shifted, bit-ones, every, every-at}
 use Rattle.gaps.proofs.Ascending.{false-same, false-none, false-parts}
 use Rattle.rows.proofs.Flags.{beq-eq}

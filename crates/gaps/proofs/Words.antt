@@ -9,7 +9,7 @@ use lib.Pow.{shr-shr, shr-lt}
 use lib.ListN.{length, set, length-set}
 use Rattle.gaps.specs.declared.writing.Found.{Found}
 use Rattle.gaps.specs.declared.writing.Found.the-variants.{Done, More}
-use Rattle.gaps.specs.Writing.{Writes}
+use Rattle.gaps.specs.contracts.Rows.{Writes}
 use Rattle.gaps.proofs.Written.{writes-none, writes-one, writes-full}
 use Rattle.truth.specs.Value.{bit}
 use Rattle.gaps.specs.Gaps.{falseFrom}

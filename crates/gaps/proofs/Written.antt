@@ -13,7 +13,8 @@ use borrow.Author.Tests.{le-leb, lt-leb, leb-true, leb-false}
 use Rattle.notation.proofs.Cases.{either}
 use Rattle.gaps.specs.declared.writing.Found.{Found}
 use Rattle.gaps.specs.declared.writing.Found.the-variants.{Done, More}
-use Rattle.gaps.specs.Writing.{found, placed, Writes}
+use Rattle.gaps.specs.Writing.{found, placed}
+use Rattle.gaps.specs.contracts.Rows.{Writes}
 
 -- nothing lies past the end
 drop-past : (n : ℕ) (l : List ℕ) → length l ≤ n → drop n l ≡ []

@@ -1,2 +1,3 @@
 pub mod Gaps
 pub mod Writing
+pub mod contracts

@@ -5,10 +5,10 @@ ghost use mathlib.Core.Bool.{not};
 ghost use Prim.Native.Nat.{suc, _+_, _*_, _-_, _/_, _^_, _≤_, _<_};
 ghost use lib.ListN.{length};
 ghost use Rattle.truth.specs.Value.{bit};
-ghost use Rattle.truth.specs.Computed.{literalValue};
+ghost use Rattle.truth.specs.contracts.Computed.{literalValue};
 ghost use Rattle.gaps.specs.Gaps.{falseFrom};
-ghost use Rattle.rows.specs.Rows.{inRow};
-ghost use Rattle.gaps.specs.Writing.{Writes, since, LiveWord, wordsOf};
+ghost use Rattle.rows.specs.contracts.Rows.{inRow};
+ghost use Rattle.gaps.specs.contracts.Rows.{Writes, since, LiveWord, wordsOf};
 
 // What became of the states: all were written, and how many stand in the slice; or the slice is full, and which is the next.
 pub enum Found {

@@ -7,8 +7,8 @@ use Rattle.notation.specs.declared.refusal.Refusal.{Refusal}
 use Rattle.verdict.specs.declared.verdicts.Verdict.{Verdict}
 use Rattle.verdict.specs.declared.verdicts.Verdict.the-variants.{Covered, Gap, Undecided, Refused}
 use Rattle.importer.specs.Packed.{packed, packedRefusal, packedVerdict}
-use Rattle.reading.specs.Service.{lastRefusal}
-use Rattle.importer.specs.Fits.{RefusalFits, VerdictFits}
+use Rattle.reading.specs.contracts.Parsing.{lastRefusal}
+use Rattle.importer.specs.contracts.Fits.{RefusalFits, VerdictFits}
 
 -- the kind and the payload of a number
 pub packed-apart : (kind payload : ℕ) → payload < 2 ^ 32 → (packed kind payload / 2 ^ 32 ≡ kind) × (packed kind payload % 2 ^ 32 ≡ payload)

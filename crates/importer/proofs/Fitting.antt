@@ -16,7 +16,8 @@ use Rattle.notation.specs.Guard.{Guard, connectives}
 use Rattle.notation.specs.Triplets.{literal, literalCeiling, triplets}
 use Rattle.notation.specs.Grammar.{tree}
 use Rattle.notation.specs.Reading.{Reading, refusal, guard, judged, reading}
-use Rattle.reading.specs.Service.{lastRefusal, guardWith, refusedWith, readAnswer, unnamed, nameIn, nameAnswer}
+use Rattle.reading.specs.Service.{guardWith, refusedWith, readAnswer, unnamed, nameIn, nameAnswer}
+use Rattle.reading.specs.contracts.Parsing.{lastRefusal}
 use Rattle.reading.specs.declared.parse.Parsed.{Parsed}
 use Rattle.reading.specs.declared.name.Named.{Named}
 use Rattle.notation.proofs.Cases.{either}
@@ -38,7 +39,7 @@ use Rattle.gaps.proofs.Ascending.{false-not, false-one}
 use Rattle.verdict.specs.Check.{depthCeiling, asked, ReadingSays, CheckSays}
 use Rattle.verdict.specs.declared.verdicts.Verdict.{Verdict}
 use Rattle.verdict.specs.declared.verdicts.Verdict.the-variants.{Covered, Gap, Undecided, Refused}
-use Rattle.importer.specs.Fits.{RefusalFits, VerdictFits, EvaluationFits, FoundFits, ListingFits, ParsedFits, NamedFits}
+use Rattle.importer.specs.contracts.Fits.{RefusalFits, VerdictFits, EvaluationFits, FoundFits, ListingFits, ParsedFits, NamedFits}
 use Rattle.reading.proofs.Places.{choose-has, FlagsFit, OutcomeFits, text-fits}
 
 -- ---- what a text says

@@ -1,3 +1,3 @@
 pub mod Packed
-pub mod Fits
 pub mod Entries
+pub mod contracts

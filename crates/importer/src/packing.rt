@@ -9,7 +9,7 @@ use verdict::verdicts::Verdict;
 ghost use mathlib.Core.Path.{_≡_};
 ghost use Prim.Native.Nat.{_^_, _≤_, _<_};
 ghost use Rattle.importer.specs.Packed.{packed, packedRefusal, packedVerdict, packedEvaluation, packedFound, packedListing, packedParsed, packedNamed};
-ghost use Rattle.importer.specs.Fits.{RefusalFits, VerdictFits, EvaluationFits, FoundFits, ListingFits, ParsedFits, NamedFits};
+ghost use Rattle.importer.specs.contracts.Fits.{RefusalFits, VerdictFits, EvaluationFits, FoundFits, ListingFits, ParsedFits, NamedFits};
 
 // What a kind counts, 2^32.
 const KIND: u64 = 4294967296;

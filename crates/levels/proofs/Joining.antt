@@ -10,10 +10,11 @@ use Rattle.notation.specs.Tokens.{Tokens, Sign}
 use Rattle.notation.specs.Walk.{Flag, refused, walk, operand}
 use Rattle.notation.specs.Guard.{Guard, joined}
 use Rattle.notation.specs.Grammar.{Level, past, signNext, leftLevel, toTheRight}
-use Rattle.notation.specs.Triplets.{tripletOf, tripletAt}
-use Rattle.notation.specs.Cut.{ahead}
-use Rattle.notation.specs.Codes.{flagsIn, InText}
-use Rattle.operands.specs.Levels.{plain, binding, kindIs, joinedPart, Standing, PastSignSays, Reads, Writes, FoundPart, LevelSays}
+use Rattle.notation.specs.Triplets.{tripletOf}
+use Rattle.notation.specs.contracts.Writing.{tripletAt}
+use Rattle.notation.specs.contracts.Cut.{ahead}
+use Rattle.notation.specs.contracts.Codes.{flagsIn, InText}
+use Rattle.operands.specs.contracts.Levels.{plain, binding, kindIs, joinedPart, Standing, PastSignSays, Reads, Writes, FoundPart, LevelSays}
 use Rattle.notation.specs.declared.refusal.Refusal.{Refusal}
 use Rattle.operands.specs.declared.At.{At}
 use Rattle.operands.specs.declared.Part.{Part}

@@ -14,7 +14,7 @@ use Rattle.notation.specs.Tokens.{Tokens, Sign, same, implies, or, and, stray, 
 use Rattle.notation.specs.Walk.{Flag, walk, operand, after, within}
 use Rattle.notation.specs.Guard.{Guard, joined, connectives}
 use Rattle.notation.specs.Grammar.{Level, Parsed, found, follow, isSign, signNext, past, toTheLeft, toTheRight, leftLevel}
-use Rattle.operands.specs.Levels.{binding, plain, Reads}
+use Rattle.operands.specs.contracts.Levels.{binding, plain, Reads}
 use Rattle.levels.proofs.Written.{connectives-joined}
 
 -- after an operand the walk passes a sign that is within the ceiling

@@ -12,10 +12,11 @@ use Rattle.notation.specs.Tokens.{Tokens, Sign, opening, bang, at as token-at}
 use Rattle.notation.specs.Walk.{Flag, refused, walk, operand, after, within}
 use Rattle.notation.specs.Guard.{Guard, negated, connectives}
 use Rattle.notation.specs.Grammar.{Level, Parsed, found, follow, past, closed, operandOf, inBrackets, sameOf, toTheRight, rightLevel}
-use Rattle.notation.specs.Triplets.{Triplet, literal, triplets, numbers, negation, literalCeiling, signed}
-use Rattle.notation.specs.Cut.{aheadAs, ahead, ends}
-use Rattle.notation.specs.Codes.{flagsIn, InText}
-use Rattle.operands.specs.Levels.{plain, bangs, TokenFits, Standing, AdvancedSays, ClosedSays, FoundPart, LevelSays, operandsAt}
+use Rattle.notation.specs.Triplets.{Triplet, literal, triplets, numbers, negation, literalCeiling}
+use Rattle.notation.specs.contracts.Writing.{signed}
+use Rattle.notation.specs.contracts.Cut.{aheadAs, ahead, ends}
+use Rattle.notation.specs.contracts.Codes.{flagsIn, InText}
+use Rattle.operands.specs.contracts.Levels.{plain, bangs, TokenFits, Standing, AdvancedSays, ClosedSays, FoundPart, LevelSays, operandsAt}
 use Rattle.notation.specs.declared.refusal.Refusal.{Refusal}
 use Rattle.notation.specs.declared.tokens.Kind.{Kind}
 use Rattle.notation.specs.declared.tokens.Kind.the-variants as kind

@@ -7,9 +7,10 @@ use lib.ListN.{length}
 use Rattle.notation.specs.Ceilings.{connectiveCeiling}
 use Rattle.notation.specs.Tokens.{Sign, same, implies, or, and}
 use Rattle.notation.specs.Guard.{Guard, joined, connectives}
-use Rattle.notation.specs.Triplets.{tripletOf, literalOf, literal, triplets, numbers, tripletVariable, literalCeiling, tripletAt}
+use Rattle.notation.specs.Triplets.{tripletOf, literalOf, literal, triplets, numbers, tripletVariable, literalCeiling}
+use Rattle.notation.specs.contracts.Writing.{tripletAt}
 use Rattle.notation.proofs.Writing.{numbers-append, take-put}
-use Rattle.operands.specs.Levels.{Writes}
+use Rattle.operands.specs.contracts.Levels.{Writes}
 
 pub connectives-joined : (s : Sign) (g h : Guard) → connectives (joined s g h) ≡ connectives g + connectives h + 1
 unfolding connectives

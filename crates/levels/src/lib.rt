@@ -21,7 +21,7 @@ ghost use mathlib.Core.Path.{_≡_};
 ghost use mathlib.Core.Bool.{false};
 ghost use Rattle.notation.specs.Tokens.{implies};
 ghost use Rattle.notation.specs.Grammar.{toTheRight, sameOf, orOf, andOf};
-ghost use Rattle.operands.specs.Levels.{LevelAsks, LevelSays, plain, operandsAt, bangs};
+ghost use Rattle.operands.specs.contracts.Levels.{LevelAsks, LevelSays, plain, operandsAt, bangs};
 
 // A guard: operands joined by `=`, which groups to the left.
 pub fn same_level(

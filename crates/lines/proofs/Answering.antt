@@ -5,7 +5,7 @@ use mathlib.Core.Path.{_≡_, sym, ap, subst, _∙_}
 use mathlib.Core.List.{List, [], _∷_}
 use lib.ListN.{length, drop, length-drop}
 use lib.Seq.{take-all}
-use Rattle.notation.specs.Cut.{part}
+use Rattle.notation.specs.contracts.Cut.{part}
 use Rattle.notation.specs.Reading.{reading}
 use Rattle.notation.specs.Ceilings.{flagCeiling}
 use Rattle.notation.specs.declared.refusal.Refusal.{Refusal}
@@ -16,7 +16,7 @@ use Rattle.verdict.specs.declared.verdicts.Verdict.the-variants.{Covered, Gap, 
 use Rattle.lines.specs.Lines.{lineFeed}
 use Rattle.lines.specs.Question.{question, guardIn, QuestionSays}
 use Rattle.lines.specs.Printed.{decimal, valued, flagsOf, answered, printed}
-use Rattle.lines.specs.Put.{Puts, PutsIn, numberRoom, valueRoom, verdictRoom}
+use Rattle.lines.specs.contracts.Put.{Puts, PutsIn, numberRoom, valueRoom, verdictRoom}
 use Rattle.lines.specs.Answer.{Answers}
 use Rattle.lines.specs.declared.question.Question.{Question}
 use Rattle.lines.specs.declared.question.Question.the-variants.{Asks}

@@ -7,9 +7,10 @@ use mathlib.Core.List.{List, [], _∷_, _++_, append-assoc}
 use lib.ListN.{length, drop, getD, length-append, length-drop, drop-of-length-le}
 use lib.Seq.{drop-cons, take-suc, getD-drop}
 use borrow.Author.Tests.{eq-eqb, ne-eqb}
-use Rattle.notation.specs.Cut.{part}
+use Rattle.notation.specs.contracts.Cut.{part}
 use Rattle.notation.proofs.Coding.{part-length}
-use Rattle.lines.specs.Lines.{lineFeed, onto, lines, LineEnd, Through, ended, line, LinesBefore, LineAt}
+use Rattle.lines.specs.Lines.{lineFeed, onto, lines}
+use Rattle.lines.specs.contracts.Cutting.{LineEnd, Through, ended, line, LinesBefore, LineAt}
 
 -- bytes in front of the first line
 unfoldable pub before : List ℕ → List (List ℕ) → List (List ℕ)

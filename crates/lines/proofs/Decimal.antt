@@ -8,7 +8,7 @@ use lib.ListN.{length, length-append}
 use borrow.Author.Tests.{lt-ltb, le-ltb}
 use Rattle.notation.proofs.Cases.{lt-or-ge}
 use Rattle.lines.specs.Printed.{digit, decimalAt, decimal}
-use Rattle.lines.specs.Put.{numberRoom}
+use Rattle.lines.specs.contracts.Put.{numberRoom}
 
 -- one more digit than fits makes no difference
 enough : (k m n : ℕ) → n < k → n < m → decimalAt k n ≡ decimalAt m n

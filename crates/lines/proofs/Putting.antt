@@ -8,7 +8,7 @@ use mathlib.Core.Logic.{⊎-elim}
 use lib.ListN.{length, take, drop, set, getD, length-append, length-set, take-append-drop, drop-of-length-le}
 use lib.Seq.{take-suc, take-suc-set, take-all, take-at, drop-at, drop-drop, drop-set-lt, length-take-le}
 use Rattle.notation.proofs.Cases.{lt-or-ge}
-use Rattle.lines.specs.Put.{Puts}
+use Rattle.lines.specs.contracts.Put.{Puts}
 
 -- ---- cut at r: up to there the bytes after what stood before them, from there on what stood there
 pub puts-of : {a : List ℕ} {p : ℕ} {x b : List ℕ} {r : ℕ} → r ≡ p + length x → take r b ≡ take p a ++ x → drop r b ≡ drop r a → length b ≡ length a → Puts a p x b r

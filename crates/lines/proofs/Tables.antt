@@ -12,14 +12,14 @@ use Rattle.notation.specs.Walk.{Flag, Outcome, refused, accepted, walk, operand
 use Rattle.notation.specs.Guard.{Guard}
 use Rattle.notation.specs.Grammar.{tree}
 use Rattle.notation.specs.Reading.{Reading, refusal, guard, judged, reading}
-use Rattle.notation.specs.Codes.{startOf, endOf, codeIn, flagAt, flagsIn}
+use Rattle.notation.specs.contracts.Codes.{startOf, endOf, codeIn, flagAt, flagsIn}
 use Rattle.notation.specs.declared.refusal.Refusal.{Refusal}
 use Rattle.reading.specs.declared.parse.Guard as counted
 use Rattle.notation.proofs.Coding.{flags-split}
 use Rattle.reading.proofs.Serving.{Found}
 use Rattle.reading.proofs.Places.{choose-has, FlagsFit, OutcomeFits, text-fits}
 use Rattle.lines.specs.Printed.{valued, flagsOf}
-use Rattle.lines.specs.Put.{PutsIn, CodeTable, valueRoom}
+use Rattle.lines.specs.contracts.Put.{PutsIn, CodeTable, valueRoom}
 use Rattle.lines.proofs.Putting.{puts-none}
 
 -- ---- codes are within their ceiling

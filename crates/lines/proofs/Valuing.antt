@@ -8,12 +8,12 @@ use lib.ListN.{length, take, drop, length-append, drop-of-length-le}
 use lib.Seq.{length-take-le, drop-drop, drop-at}
 use Rattle.notation.specs.Tokens.{choose}
 use Rattle.notation.specs.Walk.{Flag}
-use Rattle.notation.specs.Codes.{startOf, endOf, codeIn, flagAt, flagsIn}
+use Rattle.notation.specs.contracts.Codes.{startOf, endOf, codeIn, flagAt, flagsIn}
 use Rattle.notation.proofs.Coding.{flags-length, flags-split}
 use Rattle.truth.specs.Value.{bit}
 use Rattle.verdict.specs.Desk.{bytes}
 use Rattle.lines.specs.Printed.{flagValue, valued}
-use Rattle.lines.specs.Put.{Puts, PutsIn, CodeTable, valueRoom}
+use Rattle.lines.specs.contracts.Put.{Puts, PutsIn, CodeTable, valueRoom}
 use Rattle.lines.proofs.Putting.{puts-of, puts-cut, kept-later, puts-then}
 
 -- one flag: a space, the code, `=`, the digit

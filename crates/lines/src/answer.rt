@@ -12,7 +12,7 @@ ghost use Prim.Native.Nat.{_+_, _≤_};
 ghost use mathlib.Core.List.{[]};
 ghost use lib.ListN.{length};
 ghost use Rattle.verdict.specs.declared.verdicts.Verdict.the-variants.{Gap, Refused};
-ghost use Rattle.lines.specs.Put.{Puts, PutsIn, verdictRoom, answerRoom};
+ghost use Rattle.lines.specs.contracts.Put.{Puts, PutsIn, verdictRoom, answerRoom};
 ghost use Rattle.lines.specs.Printed.{answered, printed};
 ghost use Rattle.lines.specs.Answer.{Answers};
 

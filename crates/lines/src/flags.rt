@@ -11,10 +11,10 @@ ghost use lib.ListN.{length};
 ghost use Rattle.notation.specs.Ceilings.{flagCeiling};
 ghost use Rattle.notation.specs.Tokens.{choose};
 ghost use Rattle.notation.specs.Reading.{reading};
-ghost use Rattle.notation.specs.Codes.{flagsIn, codeIn};
+ghost use Rattle.notation.specs.contracts.Codes.{flagsIn, codeIn};
 ghost use Rattle.truth.specs.Value.{bit};
 ghost use Rattle.verdict.specs.Desk.{bytes};
-ghost use Rattle.lines.specs.Put.{Puts, PutsIn, CodeTable, valueRoom};
+ghost use Rattle.lines.specs.contracts.Put.{Puts, PutsIn, CodeTable, valueRoom};
 ghost use Rattle.lines.specs.Printed.{flagValue, valued, flagsOf};
 
 // A bit of a state.

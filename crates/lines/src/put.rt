@@ -2,7 +2,7 @@
 ghost use Prim.Native.Nat.{_+_, _≤_, _<_};
 ghost use mathlib.Core.List.{[], _∷_};
 ghost use lib.ListN.{length};
-ghost use Rattle.lines.specs.Put.{Puts, PutsIn, numberRoom};
+ghost use Rattle.lines.specs.contracts.Put.{Puts, PutsIn, numberRoom};
 ghost use Rattle.lines.specs.Printed.{decimal};
 
 // One byte.

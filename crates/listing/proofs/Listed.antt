@@ -12,12 +12,12 @@ use Rattle.notation.specs.Reading.{refusal, reading}
 use Rattle.notation.specs.declared.refusal.Refusal.{Refusal}
 use Rattle.reading.specs.declared.parse.Guard as counted
 use Rattle.reading.proofs.Serving as serving
-use Rattle.truth.specs.Computed.{rootValue, Triplets}
+use Rattle.truth.specs.contracts.Computed.{rootValue, Triplets}
 use Rattle.truth.proofs.Written.{read-flags, read-begins, read-triplets}
 use Rattle.gaps.specs.declared.writing.Found.{Found}
 use Rattle.listing.specs.declared.Listing.the-variants.{Gaps, Refused}
 use Rattle.gaps.specs.Gaps.{falseFrom, gapsFrom}
-use Rattle.gaps.specs.Writing.{Writes}
+use Rattle.gaps.specs.contracts.Rows.{Writes}
 use Rattle.listing.specs.Listed.{listed, filled, Lists}
 use Rattle.listing.proofs.OfGuard.{guard-gaps}
 

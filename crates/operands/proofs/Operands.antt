@@ -13,9 +13,9 @@ use Rattle.notation.specs.Walk.{Flag, refused, walk, operand, after, within, kn
 use Rattle.notation.specs.Guard.{Guard, flag, truth, connectives}
 use Rattle.notation.specs.Grammar.{Level, found, number, past, closed, operandOf}
 use Rattle.notation.specs.Triplets.{literal, triplets, numbers, literalCeiling}
-use Rattle.notation.specs.Cut.{part, aheadAs, ahead, ends}
-use Rattle.notation.specs.Codes.{flagsIn, flagAt, InText, PlaceOf, entered}
-use Rattle.operands.specs.Levels.{binding, joins, closes, Standing, AdvancedSays, ClosedSays, AtomSays}
+use Rattle.notation.specs.contracts.Cut.{part, aheadAs, ahead, ends}
+use Rattle.notation.specs.contracts.Codes.{flagsIn, flagAt, InText, PlaceOf, entered}
+use Rattle.operands.specs.contracts.Levels.{binding, joins, closes, Standing, AdvancedSays, ClosedSays, AtomSays}
 use Rattle.notation.specs.declared.tokens.Kind.{Kind}
 use Rattle.notation.specs.declared.tokens.Kind.the-variants as kind
 use Rattle.operands.specs.declared.At.{At}

@@ -11,8 +11,8 @@ use Rattle.notation.specs.Ceilings.{connectiveCeiling}
 use Rattle.notation.specs.Tokens.{Token, Sign, same, implies, or, and, at}
 use Rattle.notation.specs.Walk.{Flag, refused, walk, operand, after, within}
 use Rattle.notation.specs.Grammar.{sameSign, isSign, signNext, past}
-use Rattle.notation.specs.Cut.{tokensAt, aheadAs, ends, signOf, NextToken, FaultyHere}
-use Rattle.operands.specs.Levels.{binding, kindIs, joins, TokenFits, AdvancedSays, PastSignSays}
+use Rattle.notation.specs.contracts.Cut.{tokensAt, aheadAs, ends, signOf, NextToken, FaultyHere}
+use Rattle.operands.specs.contracts.Levels.{binding, kindIs, joins, TokenFits, AdvancedSays, PastSignSays}
 use Rattle.notation.specs.declared.refusal.Refusal.{Refusal}
 use Rattle.notation.specs.declared.tokens.Kind.{Kind}
 use Rattle.notation.specs.declared.tokens.Kind.the-variants as kind

@@ -14,10 +14,11 @@ ghost use mathlib.Core.Bool.{true, false};
 ghost use Prim.Native.Nat.{_+_, _*_, _≤_, _<_};
 ghost use lib.ListN.{length};
 ghost use Rattle.notation.specs.Grammar.{sameSign};
-ghost use Rattle.notation.specs.Cut.{ends, signOf};
+ghost use Rattle.notation.specs.contracts.Cut.{ends, signOf};
 ghost use Rattle.notation.specs.Ceilings.{connectiveCeiling, flagCeiling};
-ghost use Rattle.notation.specs.Triplets.{tripletOf, literalCeiling, tripletAt};
-ghost use Rattle.operands.specs.Levels.{TokenFits, Standing, AdvancedSays, PastSignSays, AtomSays, ClosedSays, passedOn, kindIs, joins, bangs, closes, binding, joinedPart};
+ghost use Rattle.notation.specs.Triplets.{tripletOf, literalCeiling};
+ghost use Rattle.notation.specs.contracts.Writing.{tripletAt};
+ghost use Rattle.operands.specs.contracts.Levels.{TokenFits, Standing, AdvancedSays, PastSignSays, AtomSays, ClosedSays, passedOn, kindIs, joins, bangs, closes, binding, joinedPart};
 
 // Where the reader stands: the token ahead, and how many flags, signs and triplets lie behind.
 pub struct At {

@@ -13,10 +13,11 @@ use Rattle.notation.specs.Guard.{Guard, connectives}
 use Rattle.notation.specs.Grammar.{sameOf, treeOf, tree}
 use Rattle.notation.specs.Triplets.{literal}
 use Rattle.notation.specs.Reading.{Reading, refusal, guard, judged, reading}
-use Rattle.notation.specs.Cut.{tokensAt, aheadAs, ahead, ends, NextToken, FaultyHere}
-use Rattle.notation.specs.Codes.{flagsIn}
-use Rattle.operands.specs.Levels.{plain, joins, operandsAt, LevelAsks, FoundPart}
-use Rattle.reading.specs.Service.{refusedWith, guardWith, endedAs, ParseSays}
+use Rattle.notation.specs.contracts.Cut.{tokensAt, aheadAs, ahead, ends, NextToken, FaultyHere}
+use Rattle.notation.specs.contracts.Codes.{flagsIn}
+use Rattle.operands.specs.contracts.Levels.{plain, joins, operandsAt, LevelAsks, FoundPart}
+use Rattle.reading.specs.Service.{refusedWith, guardWith}
+use Rattle.reading.specs.contracts.Parsing.{endedAs, ParseSays}
 use Rattle.notation.specs.declared.refusal.Refusal.{Refusal}
 use Rattle.notation.specs.declared.tokens.Kind.{Kind}
 use Rattle.notation.specs.declared.tokens.Kind.the-variants as kind

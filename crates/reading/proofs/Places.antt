@@ -10,7 +10,7 @@ use borrow.Author.Tests.{leb-true}
 use Rattle.notation.specs.Ceilings.{textCeiling, codeCeiling, flagCeiling, bracketCeiling, connectiveCeiling}
 use Rattle.notation.specs.Tokens.{Code, Token, Tokens, stray, long, code, hash, bang, sign, opening, closing, end, at, choose, same, implies, or, and, codeByte, codeRun, coded, hashed, marked, tokenOf, further, tokensFrom, tokens}
 use Rattle.notation.specs.Walk.{Flag, known, seen, Wanted, operand, after, Outcome, refused, accepted, within, walk}
-use Rattle.reading.specs.Service.{lastRefusal}
+use Rattle.reading.specs.contracts.Parsing.{lastRefusal}
 
 -- what holds of two things holds of the one that is chosen
 pub choose-has : {A : Type 0} (P : A → Type 0) (b : Bool) (x y : A) → (b ≡ true → P x) → (b ≡ false → P y) → P (choose b x y)

@@ -15,9 +15,10 @@ use Rattle.notation.specs.Walk.{Flag}
 use Rattle.notation.specs.Guard.{Guard, connectives}
 use Rattle.notation.specs.Triplets.{literal}
 use Rattle.notation.specs.Reading.{Reading, refusal, guard, reading}
-use Rattle.notation.specs.Cut.{part}
-use Rattle.notation.specs.Codes.{startOf, endOf, flagAt, flagsIn, InText}
-use Rattle.reading.specs.Service.{refusedWith, guardWith, GuardRead, ParseSays, readAnswer, roomAfter, ReadSays, unnamed, nameIn, nameAnswer, partOf, Spans, namedIn}
+use Rattle.notation.specs.contracts.Cut.{part}
+use Rattle.notation.specs.contracts.Codes.{startOf, endOf, flagAt, flagsIn, InText}
+use Rattle.reading.specs.Service.{refusedWith, guardWith, readAnswer, roomAfter, ReadSays, unnamed, nameIn, nameAnswer, partOf}
+use Rattle.reading.specs.contracts.Parsing.{GuardRead, ParseSays, Spans, namedIn}
 use Rattle.notation.specs.declared.refusal.Refusal.{Refusal}
 use Rattle.reading.specs.declared.parse.Guard as counted
 use Rattle.reading.specs.declared.parse.Parsed.{Parsed}

@@ -6,7 +6,8 @@ use notation::ceilings::TRIPLETS_ROOM;
 use notation::refusal::Refusal;
 ghost use mathlib.Core.Path.{_≡_};
 ghost use Rattle.notation.specs.Reading.{reading};
-ghost use Rattle.reading.specs.Service.{nameAnswer, partOf, Spans, namedIn};
+ghost use Rattle.reading.specs.Service.{nameAnswer, partOf};
+ghost use Rattle.reading.specs.contracts.Parsing.{Spans, namedIn};
 
 // The part of a text that is a flag's code, by its first byte and length.
 pub enum Named {

@@ -14,9 +14,9 @@ ghost use mathlib.Core.Path.{_≡_};
 ghost use Prim.Native.Nat.{_*_};
 ghost use lib.ListN.{length};
 ghost use Rattle.notation.specs.Ceilings.{flagCeiling, connectiveCeiling};
-ghost use Rattle.notation.specs.Cut.{ends};
+ghost use Rattle.notation.specs.contracts.Cut.{ends};
 ghost use Rattle.notation.specs.Reading.{reading};
-ghost use Rattle.reading.specs.Service.{ParseSays, unreadAs, endedAs};
+ghost use Rattle.reading.specs.contracts.Parsing.{ParseSays, unreadAs, endedAs};
 
 // The numbers of a guard's flags and triplets, and its root literal.
 pub struct Guard {

@@ -10,10 +10,11 @@ use lib.ListN.{length, getD, set, List·getD-eq-default}
 use lib.Seq.{getD-set-same, getD-set-other}
 use lib.Dec.{eqb, ltb}
 use borrow.Author.Tests.{eqb-true, eqb-false, eq-eqb, lt-ltb, ltb-true}
-use Rattle.notation.specs.Triplets.{negation, signed}
+use Rattle.notation.specs.Triplets.{negation}
+use Rattle.notation.specs.contracts.Writing.{signed}
 use Rattle.relation.specs.Relation.{Rel, IsRelation}
-use Rattle.relation.specs.Classes.{variableCeiling, entry, lead, relation, contradictory, Canonical, Classes}
-use Rattle.relation.specs.Contracts.{Lower, tied}
+use Rattle.relation.specs.contracts.Classes.{variableCeiling, entry, lead, relation, contradictory, Canonical, Classes}
+use Rattle.relation.specs.contracts.Keeping.{Lower, tied}
 use Rattle.relation.proofs.RelationLaws.{bool-eq}
 use Rattle.notation.proofs.Cases.{either, split-eq, lt-or-ge}
 use Rattle.notation.proofs.Shaped.{negation-half}

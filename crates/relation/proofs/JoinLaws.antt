@@ -10,9 +10,9 @@ use lib.Seq.{getD-set-same}
 use borrow.Author.Tests.{eq-eqb, ne-eqb}
 use Rattle.relation.specs.Relation.{Rel, IsRelation, Within}
 use Rattle.relation.specs.Least.{Least, Holds}
-use Rattle.notation.specs.Triplets.{signed}
-use Rattle.relation.specs.Classes.{variableCeiling, entry, lead, relation, contradictory, moved, kept, Canonical, Classes}
-use Rattle.relation.specs.Contracts.{Leaders, Joined}
+use Rattle.notation.specs.contracts.Writing.{signed}
+use Rattle.relation.specs.contracts.Classes.{variableCeiling, entry, lead, relation, contradictory, moved, kept, Canonical, Classes}
+use Rattle.relation.specs.contracts.Keeping.{Leaders, Joined}
 use Rattle.notation.proofs.Cases.{split-eq}
 use Rattle.relation.proofs.LiteralLaws.{sign-add, signed-half, signed-sign, literal-eq, same-variable}
 use Rattle.relation.proofs.RelationLaws.{signed-both, least-none, least-across, least-turned}

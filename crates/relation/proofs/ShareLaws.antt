@@ -10,9 +10,9 @@ use lib.Dec.{eqb}
 use borrow.Author.Tests.{eqb-true, eq-eqb}
 use Rattle.notation.specs.Tokens.{choose}
 use Rattle.relation.specs.Relation.{Rel}
-use Rattle.notation.specs.Triplets.{signed}
-use Rattle.relation.specs.Classes.{variableCeiling, entry, lead, relation, contradictory, Canonical, Classes}
-use Rattle.relation.specs.Contracts.{Lower, SharedLeader, Shared, common}
+use Rattle.notation.specs.contracts.Writing.{signed}
+use Rattle.relation.specs.contracts.Classes.{variableCeiling, entry, lead, relation, contradictory, Canonical, Classes}
+use Rattle.relation.specs.contracts.Keeping.{Lower, SharedLeader, Shared, common}
 use Rattle.notation.proofs.Cases.{either, split-eq, lt-or-ge, never}
 use Rattle.relation.proofs.LiteralLaws.{sign-add, signed-half, signed-sign, literal-eq}
 use Rattle.relation.proofs.RelationLaws.{bool-eq}

@@ -1,4 +1,3 @@
 pub mod Relation
 pub mod Least
-pub mod Classes
-pub mod Contracts
+pub mod contracts

@@ -5,9 +5,9 @@
 use notation::ceilings::VARIABLES;
 ghost use mathlib.Core.Path.{_≡_};
 ghost use Prim.Native.Nat.{_+_, _*_, _/_, _<_, _^_};
-ghost use Rattle.notation.specs.Triplets.{signed};
-ghost use Rattle.relation.specs.Classes.{variableCeiling, entry, kept};
-ghost use Rattle.relation.specs.Contracts.{Fresh, Led, Lower, tied};
+ghost use Rattle.notation.specs.contracts.Writing.{signed};
+ghost use Rattle.relation.specs.contracts.Classes.{variableCeiling, entry, kept};
+ghost use Rattle.relation.specs.contracts.Keeping.{Fresh, Led, Lower, tied};
 
 // Each variable with the literal of the lowest variable of its class.
 pub struct Relation {

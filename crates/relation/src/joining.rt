@@ -4,8 +4,8 @@ use crate::classes::turned;
 use notation::ceilings::VARIABLES;
 ghost use mathlib.Core.Path.{_≡_};
 ghost use Prim.Native.Nat.{_+_, _/_, _<_, _^_};
-ghost use Rattle.relation.specs.Classes.{Classes, moved, entry};
-ghost use Rattle.relation.specs.Contracts.{Joined, Leaders};
+ghost use Rattle.relation.specs.contracts.Classes.{Classes, moved, entry};
+ghost use Rattle.relation.specs.contracts.Keeping.{Joined, Leaders};
 
 // The literal w once hi has become lo.
 fn moved_to(w: u16, lo: u16, hi: u16) -> u16

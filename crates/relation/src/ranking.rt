@@ -3,7 +3,7 @@ use notation::ceilings::VARIABLES;
 ghost use mathlib.Core.Path.{_≡_};
 ghost use lib.Dec.{eqb};
 ghost use Rattle.notation.specs.Tokens.{choose};
-ghost use Rattle.relation.specs.Classes.{Classes, entry, rank};
+ghost use Rattle.relation.specs.contracts.Classes.{Classes, entry, rank};
 
 // 1 where a variable with the literal own leads to that, else 0.
 fn stands(w: u16, own: u16) -> u16

@@ -6,9 +6,9 @@ ghost use Prim.Native.Nat.{_+_, _*_, _/_, _<_, _^_, max};
 ghost use mathlib.Core.Bool.{false};
 ghost use lib.Dec.{eqb};
 ghost use Rattle.notation.specs.Tokens.{choose};
-ghost use Rattle.notation.specs.Triplets.{signed};
-ghost use Rattle.relation.specs.Classes.{variableCeiling, Classes, entry};
-ghost use Rattle.relation.specs.Contracts.{Lower, Shared, SharedLeader};
+ghost use Rattle.notation.specs.contracts.Writing.{signed};
+ghost use Rattle.relation.specs.contracts.Classes.{variableCeiling, Classes, entry};
+ghost use Rattle.relation.specs.contracts.Keeping.{Lower, Shared, SharedLeader};
 
 // Whether c and d, each negated where s is odd, are a and b.
 fn agree(a: u16, b: u16, c: u16, d: u16, s: u16) -> bool

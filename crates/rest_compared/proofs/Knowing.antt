@@ -7,10 +7,10 @@ use native.Mathlib.Omega.{arith}
 use lib.ListN.{length}
 use Rattle.notation.specs.Ceilings.{flagCeiling, connectiveCeiling}
 use Rattle.notation.specs.Triplets.{tripletVariable}
-use Rattle.notation.specs.Shape.{Names, kindAt, yAt, zAt}
+use Rattle.notation.specs.contracts.Shape.{Names, kindAt, yAt, zAt}
 use Rattle.notation.proofs.Cases.{lt-or-ge, split-eq}
-use Rattle.steps.specs.Contracts.{Readable}
-use Rattle.rest_compared.specs.Known.{Known}
+use Rattle.steps.specs.contracts.Resting.{Readable}
+use Rattle.rest_compared.specs.contracts.Known.{Known}
 
 -- each of the first j triplets is known
 abbrev pub KnownBelow : List ℕ → ℕ → Type 0

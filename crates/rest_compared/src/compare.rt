@@ -21,9 +21,9 @@ ghost use mathlib.Core.Path.{_≡_};
 ghost use mathlib.Core.Bool.{true};
 ghost use Prim.Native.Nat.{_+_, _*_, _/_, _<_, _≤_};
 ghost use lib.ListN.{length};
-ghost use Rattle.relation.specs.Contracts.{Lower};
-ghost use Rattle.steps.specs.Contracts.{Readable};
-ghost use Rattle.rest_compared.specs.Known.{Known};
+ghost use Rattle.relation.specs.contracts.Keeping.{Lower};
+ghost use Rattle.steps.specs.contracts.Resting.{Readable};
+ghost use Rattle.rest_compared.specs.contracts.Known.{Known};
 
 // The orders in which a list is tried.
 pub const ORDERS: usize = 4;

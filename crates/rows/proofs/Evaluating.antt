@@ -4,9 +4,9 @@ use mathlib.Core.Path.{refl, _∙_}
 use mathlib.Core.List.{List}
 use native.Mathlib.Omega.{arith}
 use Rattle.notation.specs.Ceilings.{flagCeiling}
-use Rattle.notation.specs.Shape.{Shape}
+use Rattle.notation.specs.contracts.Shape.{Shape}
 use Rattle.truth.proofs.Computing.{valued-more}
-use Rattle.rows.specs.Rows.{inRow, TripletMade, FlagRows, Evaluated}
+use Rattle.rows.specs.contracts.Rows.{inRow, TripletMade, FlagRows, Evaluated}
 
 pub evaluated-none : (n width : ℕ) (xs rows : List ℕ) → FlagRows n width rows → Evaluated n width xs 0 rows rows
 evaluated-none n width xs rows f =

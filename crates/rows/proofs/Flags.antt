@@ -13,7 +13,7 @@ use lib.Dec.{T}
 use borrow.Author.Tests.{eq-eqb}
 use Rattle.truth.specs.Value.{bit}
 use Rattle.truth.proofs.Literals.{parity}
-use Rattle.rows.specs.Rows.{inRow, WordOf, FlagMade, RowMade}
+use Rattle.rows.specs.contracts.Rows.{inRow, WordOf, FlagMade, RowMade}
 use Rattle.rows.proofs.Bits.{bit-shifted, bit-none, bit-ones, every, every-at}
 
 -- bit p of the numbers 0 to 63, for each p below 6

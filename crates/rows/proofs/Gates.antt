@@ -13,11 +13,11 @@ use lib.Dec.{eqb}
 use borrow.Author.Tests.{eq-eqb, ne-eqb}
 use Rattle.notation.specs.Tokens.{choose, same, implies}
 use Rattle.notation.specs.Triplets.{tripletVariable}
-use Rattle.notation.specs.Shape.{kindAt, yAt, zAt}
+use Rattle.notation.specs.contracts.Shape.{kindAt, yAt, zAt}
 use Rattle.truth.specs.Value.{bit, table}
-use Rattle.truth.specs.Computed.{literalValue, gate}
+use Rattle.truth.specs.contracts.Computed.{literalValue, gate}
 use Rattle.truth.proofs.Literals.{parity}
-use Rattle.rows.specs.Rows.{inRow, turned, RowMade, TripletMade}
+use Rattle.rows.specs.contracts.Rows.{inRow, turned, RowMade, TripletMade}
 use Rattle.rows.proofs.Bits.{bit-or, bit-xor, bit-none, bit-ones}
 
 same-false : (u : Bool) → not (table same u false) ≡ u

@@ -7,7 +7,7 @@ use native.Mathlib.Omega.{arith}
 use native.Mathlib.Nat.{eq-or-lt-of-le}
 use lib.ListN.{length, set, length-set}
 use lib.Seq.{getD-set-same, getD-set-other}
-use Rattle.rows.specs.Rows.{RowMade}
+use Rattle.rows.specs.contracts.Rows.{RowMade}
 
 pub row-none : (rows : List ℕ) (x : ℕ) (word : ℕ → ℕ) → RowMade rows x 0 word rows
 row-none rows x word = record { long = refl; made = λ w h. absurd (omega arith); kept = λ k h. refl }

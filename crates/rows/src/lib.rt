@@ -6,8 +6,8 @@ ghost use lib.ListN.{length, getD};
 ghost use lib.Bits.{bitOr, bitXor};
 ghost use Rattle.notation.specs.Ceilings.{flagCeiling, connectiveCeiling};
 ghost use Rattle.notation.specs.Triplets.{tripletVariable};
-ghost use Rattle.notation.specs.Shape.{Shape, yAt, zAt};
-ghost use Rattle.rows.specs.Rows.{turned, RowMade, TripletMade, FlagRows, Evaluated, WordOf, FlagMade, FlagsMade};
+ghost use Rattle.notation.specs.contracts.Shape.{Shape, yAt, zAt};
+ghost use Rattle.rows.specs.contracts.Rows.{turned, RowMade, TripletMade, FlagRows, Evaluated, WordOf, FlagMade, FlagsMade};
 
 // All ones for a negated literal, else zero.
 pub fn turn(l: u16) -> u64

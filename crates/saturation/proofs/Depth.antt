@@ -9,7 +9,7 @@ use Rattle.notation.specs.Triplets.{Triplet}
 use Rattle.relation.proofs.RelationLaws.{least-unique}
 use Rattle.steps.specs.Rest.{NoStepEnlarges}
 use Rattle.saturation.specs.Saturation.{taking, Stable, Saturated, SaturationOf}
-use Rattle.saturation.specs.Contracts.{Ties, HoldsSplit}
+use Rattle.saturation.specs.contracts.Saturating.{Ties, HoldsSplit}
 use Rattle.relation.specs.Relation.{Rel, IsRelation, Forced}
 use Rattle.notation.proofs.Cases.{split-eq}
 use Rattle.saturation.proofs.Taking.{above-taking, taking-above, taking-holds}

@@ -9,7 +9,7 @@ use Rattle.notation.specs.Guard.{Guard, flag, truth, negated, joined, connectiv
 use Rattle.notation.specs.Triplets.{Triplet, tripletVariable, negation, tripletOf, literalOf, literal, triplets, Each}
 use Rattle.relation.specs.Relation.{Rel, IsRelation}
 use Rattle.truth.specs.Value.{bit, table, value}
-use Rattle.notation.specs.Shape.{FlagsWithin}
+use Rattle.notation.specs.contracts.Shape.{FlagsWithin}
 use Rattle.notation.proofs.Shaped.{count-triplets}
 use Rattle.steps.specs.Step.{Side, never, always, own-x, own-y, own-z, Values, literalAt, truthAt, connected}
 use Rattle.steps.specs.Rest.{HoldsStepOn}

@@ -8,18 +8,19 @@ use native.Mathlib.Omega.{arith}
 use Rattle.notation.specs.Tokens.{choose}
 use Rattle.notation.specs.Triplets.{Triplet, negation}
 use Rattle.relation.specs.Relation.{Rel, IsRelation, Within}
-use Rattle.relation.specs.Least.{Least, Growth, Holds}
-use Rattle.relation.specs.Classes.{Classes, entry, kept, rank}
-use Rattle.relation.specs.Contracts.{common, Shared, Joined, tied}
+use Rattle.relation.specs.Least.{Least, Holds}
+use Rattle.relation.specs.contracts.Growing.{Growth}
+use Rattle.relation.specs.contracts.Classes.{Classes, entry, kept, rank}
+use Rattle.relation.specs.contracts.Keeping.{common, Shared, Joined, tied}
 use Rattle.notation.proofs.Cases.{split-eq}
 use Rattle.relation.proofs.RelationLaws.{within-trans, least-below, growth-none, growth-more, growth-least}
 use Rattle.relation.proofs.ClassLaws.{is-relation, tied-cases}
 use Rattle.relation.proofs.RankLaws.{rank-settles}
 use Rattle.steps.specs.Rest.{NoStepEnlarges}
-use Rattle.steps.specs.Contracts.{inUse, tripletsAt, Rested}
+use Rattle.steps.specs.contracts.Resting.{inUse, tripletsAt, Rested}
 use Rattle.steps.proofs.Resting.{rest-same}
 use Rattle.saturation.specs.Saturation.{taking, Stable, SaturationOf, Flags}
-use Rattle.saturation.specs.Contracts.{Ties, HoldsSplit, SaturatedTo, Nearer, Tried, Divided, Swept}
+use Rattle.saturation.specs.contracts.Saturating.{Ties, HoldsSplit, SaturatedTo, Nearer, Tried, Divided, Swept}
 use Rattle.saturation.proofs.Taking.{above-taking, taking-above, taking-holds}
 use Rattle.saturation.proofs.Depth.{stable-rest, stable-when}
 use Rattle.saturation.proofs.Fixed.{negation-even}

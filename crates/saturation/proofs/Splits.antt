@@ -8,7 +8,7 @@ use mathlib.Core.Logic.{_↔_}
 use Rattle.notation.specs.Triplets.{Triplet, negation}
 use Rattle.relation.specs.Relation.{Rel, IsRelation, Within}
 use Rattle.saturation.specs.Saturation.{taking, taken, Stable, Saturated, SaturationOf}
-use Rattle.saturation.specs.Contracts.{HoldsSplit}
+use Rattle.saturation.specs.contracts.Saturating.{HoldsSplit}
 use Rattle.saturation.specs.Answer.{Refuted}
 use Rattle.saturation.proofs.Taking.{HoldsAll, above-taking, taking-above, taking-holds, above-taken, taken-above}
 use Rattle.saturation.proofs.Depth.{saturated-held, saturated-in-turn}

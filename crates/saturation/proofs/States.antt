@@ -12,7 +12,7 @@ use Rattle.notation.specs.Triplets.{negation}
 use Rattle.relation.specs.Relation.{Rel, IsRelation, Within}
 use Rattle.notation.proofs.Cases.{split-eq}
 use Rattle.truth.specs.Value.{bit}
-use Rattle.truth.specs.Computed.{literalValue}
+use Rattle.truth.specs.contracts.Computed.{literalValue}
 use Rattle.truth.proofs.Literals.{literal-even, literal-odd, parity}
 use Rattle.saturation.specs.Answer.{flagAs, flagsAs}
 use Rattle.saturation.proofs.Taking.{HoldsAll}

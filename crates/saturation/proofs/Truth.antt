@@ -7,7 +7,7 @@ use mathlib.Core.Logic.{⊎-elim}
 use Rattle.notation.specs.Triplets.{Triplet, negation, Each}
 use Rattle.relation.specs.Relation.{Rel, IsRelation, Within}
 use Rattle.notation.proofs.Cases.{either}
-use Rattle.truth.specs.Computed.{literalValue}
+use Rattle.truth.specs.contracts.Computed.{literalValue}
 use Rattle.truth.proofs.Literals.{literal-even, literal-odd, literal-negation}
 use Rattle.steps.specs.Step.{Side, never, always, own-x, not-x, own-y, not-y, own-z, not-z, Values, literalAt, truthAt, connected}
 use Rattle.steps.specs.Rest.{HoldsStepOn}

@@ -11,7 +11,7 @@ use Rattle.notation.specs.Triplets.{Triplet, negation, literal, triplets}
 use Rattle.relation.specs.Relation.{Rel, IsRelation}
 use Rattle.notation.proofs.Cases.{split-eq, either}
 use Rattle.truth.specs.Value.{bit, value}
-use Rattle.truth.specs.Computed.{literalValue}
+use Rattle.truth.specs.contracts.Computed.{literalValue}
 use Rattle.truth.proofs.Literals.{literal-even, literal-negation, parity}
 use Rattle.steps.specs.Rest.{NoStepEnlarges}
 use Rattle.steps.proofs.Sides.{negation-twice}

@@ -6,7 +6,7 @@ use mathlib.Core.Logic.{_↔_}
 use Rattle.notation.specs.Ceilings.{flagCeiling}
 use Rattle.notation.specs.Guard.{Guard}
 use Rattle.notation.specs.Triplets.{Triplet, negation, literal, triplets}
-use Rattle.notation.specs.Shape.{FlagsWithin}
+use Rattle.notation.specs.contracts.Shape.{FlagsWithin}
 use Rattle.saturation.specs.Saturation.{taken, Saturated, Flags}
 
 -- a guard of n flags, as reading makes it

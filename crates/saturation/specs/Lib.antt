@@ -1,3 +1,3 @@
 pub mod Saturation
-pub mod Contracts
 pub mod Answer
+pub mod contracts

@@ -7,11 +7,11 @@ use relation::sharing::share;
 use steps::rest::FIRST;
 use steps::rest::rest;
 ghost use Prim.Native.Nat.{ℕ, _+_, _*_, _≤_, _<_};
-ghost use Rattle.relation.specs.Classes.{kept};
+ghost use Rattle.relation.specs.contracts.Classes.{kept};
 ghost use Rattle.steps.specs.Rest.{NoStepEnlarges};
-ghost use Rattle.steps.specs.Contracts.{tripletsAt};
+ghost use Rattle.steps.specs.contracts.Resting.{tripletsAt};
 ghost use Rattle.saturation.specs.Saturation.{Flags};
-ghost use Rattle.saturation.specs.Contracts.{Ready, SaturatedTo, Divided, Swept};
+ghost use Rattle.saturation.specs.contracts.Saturating.{Ready, SaturatedTo, Divided, Swept};
 
 // Splits on a flag that is not tied, false side first. The true side is the relation itself: what both sides share is above
 // what it was, so that one copy is enough.

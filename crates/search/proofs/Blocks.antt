@@ -7,13 +7,13 @@ use native.Mathlib.Omega.{arith}
 use native.Mathlib.Nat.{div-add-mod'}
 use lib.Pow.{field, mod-mod-pow, low}
 use Rattle.truth.specs.Value.{bit}
-use Rattle.truth.specs.Computed.{literalValue, computed, Valued, rootValue, Triplets}
+use Rattle.truth.specs.contracts.Computed.{literalValue, computed, Valued, rootValue, Triplets}
 use Rattle.truth.proofs.Computing.{valued, valued-unique}
 use Rattle.gaps.specs.declared.writing.Found.{Found}
 use Rattle.gaps.specs.Gaps.{falseFrom}
-use Rattle.rows.specs.Rows.{inRow, Evaluated}
-use Rattle.gaps.specs.Writing.{Writes, since}
-use Rattle.search.specs.Walking.{Walked}
+use Rattle.rows.specs.contracts.Rows.{inRow, Evaluated}
+use Rattle.gaps.specs.contracts.Rows.{Writes, since}
+use Rattle.search.specs.contracts.Walking.{Walked}
 use Rattle.rows.proofs.Evaluating.{flags-kept}
 use Rattle.gaps.proofs.Since.{since-same}
 

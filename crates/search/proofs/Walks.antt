@@ -12,17 +12,17 @@ use lib.Dec.{eqb, ltb}
 use Rattle.notation.specs.Tokens.{choose}
 use Rattle.notation.specs.Ceilings.{flagCeiling, connectiveCeiling}
 use Rattle.truth.specs.Value.{bit}
-use Rattle.truth.specs.Computed.{computed, rootValue, Triplets}
+use Rattle.truth.specs.contracts.Computed.{computed, rootValue, Triplets}
 use Rattle.truth.proofs.Literals.{literal-even}
 use Rattle.truth.proofs.Computing.{flag-kept, true-at-start}
 use Rattle.gaps.specs.declared.writing.Found.{Found}
 use Rattle.gaps.specs.declared.writing.Found.the-variants.{Done, More}
 use Rattle.gaps.specs.Gaps.{falseFrom}
 use Rattle.notation.specs.Triplets.{tripletVariable}
-use Rattle.rows.specs.Rows.{FlagRows, FlagsMade}
-use Rattle.gaps.specs.Writing.{Writes, since}
-use Rattle.fixing.specs.Fixing.{Fixed}
-use Rattle.search.specs.Walking.{Rows, Stretch, Walked}
+use Rattle.rows.specs.contracts.Rows.{FlagRows, FlagsMade}
+use Rattle.gaps.specs.contracts.Rows.{Writes, since}
+use Rattle.fixing.specs.contracts.Fixing.{Fixed}
+use Rattle.search.specs.contracts.Walking.{Rows, Stretch, Walked}
 use Rattle.gaps.proofs.Ascending.{false-none, false-parts}
 use Rattle.gaps.proofs.Since.{since-same, since-none, since-whole}
 use Rattle.search.proofs.Blocks.{multiple}

@@ -7,9 +7,9 @@ use gaps::writing::Found;
 use notation::ceilings::VARIABLES;
 use rows::flag_rows;
 ghost use Prim.Native.Nat.{_^_, _-_, _≤_, _<_};
-ghost use Rattle.truth.specs.Computed.{rootValue, Triplets};
+ghost use Rattle.truth.specs.contracts.Computed.{rootValue, Triplets};
 ghost use Rattle.gaps.specs.Gaps.{falseFrom};
-ghost use Rattle.gaps.specs.Writing.{Writes};
+ghost use Rattle.gaps.specs.contracts.Rows.{Writes};
 
 // Words of the rows of all variables, at four and at 32 words to a row.
 const FOUR_WORDS: usize = 4 * VARIABLES;

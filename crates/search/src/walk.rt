@@ -10,8 +10,8 @@ ghost use lib.ListN.{length};
 ghost use Rattle.notation.specs.Ceilings.{connectiveCeiling};
 ghost use Rattle.notation.specs.Triplets.{tripletVariable};
 ghost use Rattle.truth.specs.Value.{bit};
-ghost use Rattle.truth.specs.Computed.{rootValue, Triplets};
-ghost use Rattle.search.specs.Walking.{Rows, Stretch, Walked};
+ghost use Rattle.truth.specs.contracts.Computed.{rootValue, Triplets};
+ghost use Rattle.search.specs.contracts.Walking.{Rows, Stretch, Walked};
 
 // All states of n flags at once.
 pub fn block(

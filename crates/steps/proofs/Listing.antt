@@ -6,7 +6,7 @@ use native.Mathlib.Omega.{arith}
 use lib.ListN.{length, take}
 use lib.Seq.{getD-take}
 use Rattle.notation.specs.Triplets.{Triplet, numbers}
-use Rattle.steps.specs.Contracts.{tripletsAt}
+use Rattle.steps.specs.contracts.Resting.{tripletsAt}
 use Rattle.notation.proofs.EachTriplet.{tripletAt, at-next}
 
 first-then : (t : Triplet) (ts : List Triplet) (c : ℕ) → tripletsAt (numbers (t ∷ ts)) (suc c) ≡ t ∷ tripletsAt (numbers ts) c

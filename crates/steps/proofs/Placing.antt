@@ -10,13 +10,13 @@ use lib.Dec.{eqb}
 use borrow.Author.Tests.{eq-eqb, ne-eqb}
 use Rattle.notation.specs.Triplets.{negation}
 use Rattle.notation.specs.Tokens.{choose}
-use Rattle.relation.specs.Classes.{lead, relation}
+use Rattle.relation.specs.contracts.Classes.{lead, relation}
 use Rattle.notation.proofs.Cases.{split-eq}
 use Rattle.relation.proofs.LiteralLaws.{same-variable}
 use Rattle.relation.proofs.ClassLaws.{lead-is, lead-negation, relation-leads, leads-same, contradictory-at}
 use Rattle.steps.specs.Step.{Side, own-x, own-y, own-z, literalAt}
 use Rattle.steps.specs.Table.{xNames, yNames, zNames, earliest, pattern, patternOf}
-use Rattle.steps.specs.Leading.{place, xPlace, yPlace, zPlace, Patterned}
+use Rattle.steps.specs.contracts.Leading.{place, xPlace, yPlace, zPlace, Patterned}
 
 -- a literal of m's variable has one of the two places of m and its negation
 place-here : (l m : ℕ) (ms : List ℕ) → l / 2 ≡ m / 2 → place l (m ∷ negation m ∷ ms) ≡ (l + m) % 2

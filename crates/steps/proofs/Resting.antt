@@ -8,17 +8,17 @@ use native.Mathlib.Omega.{arith}
 use lib.ListN.{length, length-append}
 use Rattle.notation.specs.Ceilings.{flagCeiling, connectiveCeiling}
 use Rattle.notation.specs.Triplets.{Triplet, tripletVariable, Each}
-use Rattle.notation.specs.Shape.{Names, kindAt, yAt, zAt, Shape}
+use Rattle.notation.specs.contracts.Shape.{Names, kindAt, yAt, zAt, Shape}
 use Rattle.relation.specs.Relation.{Rel, IsRelation, Within}
-use Rattle.relation.specs.Least.{Growth}
-use Rattle.relation.specs.Classes.{entry, relation, contradictory, kept, Classes, rank}
+use Rattle.relation.specs.contracts.Growing.{Growth}
+use Rattle.relation.specs.contracts.Classes.{entry, relation, contradictory, kept, Classes, rank}
 use Rattle.notation.proofs.Cases.{split-eq}
 use Rattle.relation.proofs.RelationLaws.{within-trans, growth-none, growth-more, growth-least, least-below}
 use Rattle.relation.proofs.ClassLaws.{relation-all, is-relation}
 use Rattle.relation.proofs.RankLaws.{rank-settles}
 use Rattle.steps.specs.Step.{Side, literalAt, Adds, HoldsStep}
 use Rattle.steps.specs.Rest.{HoldsStepOn, NoStepEnlarges}
-use Rattle.steps.specs.Contracts.{Usable, Readable, inUse, tripletsAt, Passed, Rested, Stepped}
+use Rattle.steps.specs.contracts.Resting.{Usable, Readable, inUse, tripletsAt, Passed, Rested, Stepped}
 use Rattle.notation.proofs.EachTriplet.{each-map, each-left, each-right, each-both, tripletAt}
 
 -- ---- the triplets by their numbers

@@ -8,7 +8,7 @@ use lib.Dec.{eqb}
 use lib.ListN.{length, getD}
 use borrow.Author.Tests.{eqb-true}
 use Rattle.steps.specs.Table.{entry}
-use Rattle.steps.specs.Contracts.{Entries}
+use Rattle.steps.specs.contracts.Resting.{Entries}
 use Rattle.steps.proofs.Entries.{passes, at}
 
 -- the number at place k is the entry of its kind and pattern

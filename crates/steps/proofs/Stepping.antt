@@ -7,16 +7,16 @@ use mathlib.Core.Logic.{⊎-elim}
 use native.Mathlib.Omega.{arith}
 use Rattle.relation.specs.Relation.{Rel, IsRelation, Within}
 use Rattle.relation.specs.Least.{Holds}
-use Rattle.relation.specs.Classes.{lead, entry as at, contradictory as broken, kept, Classes}
-use Rattle.relation.specs.Contracts.{Joined}
+use Rattle.relation.specs.contracts.Classes.{lead, entry as at, contradictory as broken, kept, Classes}
+use Rattle.relation.specs.contracts.Keeping.{Joined}
 use Rattle.notation.proofs.Cases.{either}
 use Rattle.notation.proofs.Shaped.{negation-half}
 use Rattle.relation.proofs.RelationLaws.{least-none, least-then, least-same}
 use Rattle.relation.proofs.ClassLaws.{relation-all, is-relation, true-leads}
 use Rattle.steps.specs.Step.{Side, never, always, own-x, not-x, own-y, not-y, own-z, not-z, literalAt, HoldsStep}
 use Rattle.steps.specs.Table.{xNamed, yNamed, zNamed, pattern, patternOf, follows, contradictory, entry, NamesHold}
-use Rattle.steps.specs.Leading.{Patterned}
-use Rattle.steps.specs.Contracts.{Named, Stepped}
+use Rattle.steps.specs.contracts.Leading.{Patterned}
+use Rattle.steps.specs.contracts.Resting.{Named, Stepped}
 use Rattle.steps.proofs.Patterns.{pattern-below}
 use Rattle.steps.proofs.Strongest.{follows-closed, entry-names, entry-consistent}
 use Rattle.steps.proofs.StepLaws.{step-contradicts, contradicts-step, step-names, names-step, settled}

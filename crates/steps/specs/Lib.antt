@@ -1,5 +1,4 @@
 pub mod Step
 pub mod Table
 pub mod Rest
-pub mod Leading
-pub mod Contracts
+pub mod contracts

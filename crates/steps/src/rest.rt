@@ -5,8 +5,8 @@ use crate::table::table;
 use notation::ceilings::VARIABLES;
 use relation::ranking::size_of;
 ghost use Prim.Native.Nat.{_+_, _*_, _<_};
-ghost use Rattle.relation.specs.Classes.{Classes};
-ghost use Rattle.steps.specs.Contracts.{Entries, inUse, Passed, Rested, Readable};
+ghost use Rattle.relation.specs.contracts.Classes.{Classes};
+ghost use Rattle.steps.specs.contracts.Resting.{Entries, inUse, Passed, Rested, Readable};
 
 // The variable of the first triplet.
 pub const FIRST: usize = 25;

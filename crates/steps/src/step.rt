@@ -9,11 +9,11 @@ ghost use mathlib.Core.Path.{_≡_};
 ghost use mathlib.Core.Bool.{true};
 ghost use Prim.Native.Nat.{_+_, _*_, _/_, _%_, _<_, _≤_, _^_};
 ghost use lib.ListN.{getD};
-ghost use Rattle.relation.specs.Classes.{Classes};
+ghost use Rattle.relation.specs.contracts.Classes.{Classes};
 ghost use Rattle.steps.specs.Step.{own-z, literalAt};
 ghost use Rattle.steps.specs.Table.{zNames};
-ghost use Rattle.steps.specs.Leading.{xPlace, yPlace, zPlace, Patterned};
-ghost use Rattle.steps.specs.Contracts.{Entries, Usable, Named, Stepped};
+ghost use Rattle.steps.specs.contracts.Leading.{xPlace, yPlace, zPlace, Patterned};
+ghost use Rattle.steps.specs.contracts.Resting.{Entries, Usable, Named, Stepped};
 
 // The name of x: false, true or its own.
 fn x_place(a: u16) -> u16

@@ -3,7 +3,7 @@ use crate::AFTER;
 ghost use mathlib.Core.Path.{_≡_};
 ghost use Prim.Native.Nat.{_≤_, _<_};
 ghost use Rattle.steps.specs.Table.{entry};
-ghost use Rattle.steps.specs.Contracts.{Entries};
+ghost use Rattle.steps.specs.contracts.Resting.{Entries};
 
 // The entries of both kinds.
 pub const ENTRIES: usize = 210;

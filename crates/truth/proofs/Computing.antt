@@ -10,9 +10,9 @@ use lib.ListN.{getD}
 use borrow.Author.Tests.{eq-eqb, ne-eqb}
 use Rattle.notation.specs.Ceilings.{flagCeiling}
 use Rattle.notation.specs.Triplets.{tripletVariable}
-use Rattle.notation.specs.Shape.{Names, Shape, kindAt, yAt, zAt}
+use Rattle.notation.specs.contracts.Shape.{Names, Shape, kindAt, yAt, zAt}
 use Rattle.truth.specs.Value.{bit}
-use Rattle.truth.specs.Computed.{literalValue, gate, computed, Valued}
+use Rattle.truth.specs.contracts.Computed.{literalValue, gate, computed, Valued}
 use Rattle.truth.proofs.Literals.{literal-agrees}
 
 module _ (n s : ℕ) (xs : List ℕ) where

@@ -10,7 +10,7 @@ use Rattle.notation.specs.declared.refusal.Refusal.{Refusal}
 use Rattle.reading.specs.declared.parse.Guard as counted
 use Rattle.reading.proofs.Serving.{Found}
 use Rattle.truth.specs.Value.{value}
-use Rattle.truth.specs.Computed.{rootValue}
+use Rattle.truth.specs.contracts.Computed.{rootValue}
 use Rattle.truth.specs.Evaluated.{evaluated}
 use Rattle.truth.specs.declared.evaluate.Evaluation.{Evaluation}
 use Rattle.truth.specs.declared.evaluate.Evaluation.the-variants.{Value, Refused}

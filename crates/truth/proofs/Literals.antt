@@ -6,7 +6,7 @@ use mathlib.Core.Logic.{_⊎_, inl, inr, ⊎-elim}
 use native.Mathlib.Omega.{arith}
 use borrow.Author.Tests.{eq-eqb, ne-eqb}
 use Rattle.notation.specs.Triplets.{negation}
-use Rattle.truth.specs.Computed.{literalValue}
+use Rattle.truth.specs.contracts.Computed.{literalValue}
 
 -- a literal is even or odd
 pub parity : (l : ℕ) → (l % 2 ≡ 0) ⊎ (l % 2 ≡ 1)

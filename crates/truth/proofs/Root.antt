@@ -10,10 +10,10 @@ use Rattle.notation.specs.Ceilings.{flagCeiling}
 use Rattle.notation.specs.Tokens.{Sign, same, implies, or, and}
 use Rattle.notation.specs.Guard.{Guard, flag, truth, negated, joined, connectives}
 use Rattle.notation.specs.Triplets.{Triplet, tripletVariable, tripletOf, literalOf, literal, triplets, numbers}
-use Rattle.notation.specs.Shape.{Shape, kindAt, yAt, zAt, FlagsWithin}
+use Rattle.notation.specs.contracts.Shape.{Shape, kindAt, yAt, zAt, FlagsWithin}
 use Rattle.notation.proofs.Shaped.{count-triplets}
 use Rattle.truth.specs.Value.{table, value}
-use Rattle.truth.specs.Computed.{literalValue, gate, computed, Valued}
+use Rattle.truth.specs.contracts.Computed.{literalValue, gate, computed, Valued}
 use Rattle.truth.proofs.Literals.{literal-even, literal-odd, literal-negation}
 use Rattle.truth.proofs.Computing.{valued}
 

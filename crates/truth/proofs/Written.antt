@@ -8,14 +8,14 @@ use lib.Seq.{getD-take}
 use Rattle.notation.specs.Ceilings.{flagCeiling, connectiveCeiling}
 use Rattle.notation.specs.Guard.{Guard, connectives}
 use Rattle.notation.specs.Triplets.{literal, triplets, numbers}
-use Rattle.notation.specs.Shape.{Names, Shape, FlagsWithin}
+use Rattle.notation.specs.contracts.Shape.{Names, Shape, FlagsWithin}
 use Rattle.notation.specs.Reading.{reading}
 use Rattle.reading.specs.declared.parse.Guard as counted
 use Rattle.notation.proofs.Accepted.{reading-within}
 use Rattle.reading.proofs.Serving.{Found}
 use Rattle.notation.proofs.Shaped.{shaped, root-named}
 use Rattle.truth.specs.Value.{value}
-use Rattle.truth.specs.Computed.{computed, rootValue, Triplets}
+use Rattle.truth.specs.contracts.Computed.{computed, rootValue, Triplets}
 use Rattle.truth.proofs.Literals.{literal-agrees}
 use Rattle.truth.proofs.Computing.{computed-same}
 use Rattle.truth.proofs.Root.{root-value}

@@ -1,4 +1,3 @@
 pub mod Value
-pub mod Computed
-pub mod Values
 pub mod Evaluated
+pub mod contracts

@@ -5,9 +5,9 @@ ghost use mathlib.Core.Path.{_≡_};
 ghost use Prim.Native.Nat.{_+_, _*_, _/_, _≤_, _<_};
 ghost use lib.ListN.{length};
 ghost use Rattle.notation.specs.Ceilings.{flagCeiling};
-ghost use Rattle.notation.specs.Shape.{kindAt, yAt, zAt};
-ghost use Rattle.truth.specs.Computed.{literalValue, gate, rootValue, Triplets};
-ghost use Rattle.truth.specs.Values.{valueIn, FlagsSet};
+ghost use Rattle.notation.specs.contracts.Shape.{kindAt, yAt, zAt};
+ghost use Rattle.truth.specs.contracts.Computed.{literalValue, gate, rootValue, Triplets};
+ghost use Rattle.truth.specs.contracts.Values.{valueIn, FlagsSet};
 
 // The value of a literal, where the variables have these values.
 fn literal_value(values: &[bool], literal: u16) -> bool

@@ -13,8 +13,9 @@ use Rattle.notation.specs.declared.refusal.Refusal.{Refusal}
 use Rattle.reading.specs.declared.parse.Guard as counted
 use Rattle.reading.proofs.Serving.{Found}
 use Rattle.notation.proofs.Accepted.{reading-within}
-use Rattle.verdict.specs.Check.{depthCeiling, asked, verdictOf, GuardSays, ReadingSays, CheckSays}
-use Rattle.verdict.specs.Decision.{FromGuard, Decided}
+use Rattle.verdict.specs.Check.{depthCeiling, asked, GuardSays, ReadingSays, CheckSays}
+use Rattle.verdict.specs.contracts.Verdicts.{verdictOf}
+use Rattle.verdict.specs.contracts.Decision.{FromGuard, Decided}
 use Rattle.verdict.specs.declared.decide.Decision.{Decision}
 use Rattle.verdict.specs.declared.verdicts.Verdict.{Verdict}
 use Rattle.verdict.specs.declared.verdicts.Verdict.the-variants.{Refused}

@@ -12,20 +12,22 @@ use Rattle.notation.specs.Guard.{Guard, connectives}
 use Rattle.notation.specs.Triplets.{tripletVariable, literal, triplets, numbers}
 use Rattle.notation.proofs.Cases.{either, split-eq}
 use Rattle.truth.specs.Value.{value}
-use Rattle.truth.specs.Computed.{rootValue, Triplets}
+use Rattle.truth.specs.contracts.Computed.{rootValue, Triplets}
 use Rattle.truth.proofs.Written.{Begins, written-triplets, written-value}
 use Rattle.notation.proofs.Shaped.{count-triplets}
-use Rattle.steps.specs.Contracts.{inUse, tripletsAt}
+use Rattle.steps.specs.contracts.Resting.{inUse, tripletsAt}
 use Rattle.steps.proofs.Resting.{readable-from}
 use Rattle.steps.proofs.Listing.{triplets-read}
 use Rattle.saturation.specs.Saturation.{Flags}
 use Rattle.saturation.specs.Answer.{Answer}
 use Rattle.saturation.proofs.Confirmed.{full-covered, full-gap}
 use Rattle.gaps.specs.Gaps.{falseFrom}
-use Rattle.gaps.specs.Writing.{found, Writes}
+use Rattle.gaps.specs.Writing.{found}
+use Rattle.gaps.specs.contracts.Rows.{Writes}
 use Rattle.gaps.proofs.Ascending.{false-not, false-one}
-use Rattle.verdict.specs.Check.{GuardSays, verdictOf}
-use Rattle.verdict.specs.Decision.{FromGuard, Askable, Decided, FullyDecided, firstGap, meant}
+use Rattle.verdict.specs.Check.{GuardSays}
+use Rattle.verdict.specs.contracts.Verdicts.{verdictOf}
+use Rattle.verdict.specs.contracts.Decision.{FromGuard, Askable, Decided, FullyDecided, firstGap, meant}
 use Rattle.gaps.specs.declared.writing.Found.{Found}
 use Rattle.gaps.specs.declared.writing.Found.the-variants.{Done, More}
 use Rattle.verdict.specs.declared.decide.Decision.{Decision}

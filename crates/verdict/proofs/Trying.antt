@@ -9,17 +9,18 @@ use native.Mathlib.Numerals.{add-one}
 use lib.Pow.{pow-mono}
 use borrow.Author.Tests.{eqb-true}
 use Rattle.notation.specs.Ceilings.{flagCeiling}
-use Rattle.notation.specs.Triplets.{Triplet, negation, signed}
+use Rattle.notation.specs.Triplets.{Triplet, negation}
+use Rattle.notation.specs.contracts.Writing.{signed}
 use Rattle.relation.specs.Relation.{Rel, IsRelation, Within}
-use Rattle.relation.specs.Classes.{Classes, entry, kept}
-use Rattle.relation.specs.Contracts.{Fresh, Joined}
+use Rattle.relation.specs.contracts.Classes.{Classes, entry, kept}
+use Rattle.relation.specs.contracts.Keeping.{Fresh, Joined}
 use Rattle.notation.proofs.Cases.{never}
 use Rattle.relation.proofs.LiteralLaws.{signed-odd}
 use Rattle.relation.proofs.RelationLaws.{within-refl}
 use Rattle.relation.proofs.ClassLaws.{is-relation}
-use Rattle.steps.specs.Contracts.{inUse, tripletsAt}
+use Rattle.steps.specs.contracts.Resting.{inUse, tripletsAt}
 use Rattle.saturation.specs.Saturation.{taking, taken, Stable, Saturated, SaturationOf, Flags}
-use Rattle.saturation.specs.Contracts.{SaturatedTo}
+use Rattle.saturation.specs.contracts.Saturating.{SaturatedTo}
 use Rattle.saturation.specs.Answer.{flagAs, flagsAs, Refuted, Trial}
 use Rattle.saturation.proofs.Taking.{HoldsAll, above-taking, taking-above, taking-holds, above-taken, taken-above}
 use Rattle.saturation.proofs.Depth.{saturated-held, in-turn}
@@ -27,7 +28,7 @@ use Rattle.saturation.proofs.Fixed.{negation-even}
 use Rattle.saturation.proofs.Splits.{refuted-held, trial-next}
 use Rattle.saturation.proofs.Saturating.{saturated-joined}
 use Rattle.saturation.proofs.Confirmed.{trial-below}
-use Rattle.verdict.specs.Decision.{Tested, Decided}
+use Rattle.verdict.specs.contracts.Decision.{Tested, Decided}
 use Rattle.verdict.specs.declared.decide.Decision.the-variants.{Covered, Gap, Undecided}
 
 -- ---- a flag and its negation

@@ -9,8 +9,6 @@ use Rattle.notation.specs.Tokens.{choose}
 use Rattle.notation.specs.Guard.{Guard}
 use Rattle.notation.specs.Reading.{Reading, refusal, guard, reading}
 use Rattle.saturation.specs.Answer.{covered, gap, undecided, Checked}
-use Rattle.verdict.specs.declared.decide.Decision.{Decision}
-use Rattle.verdict.specs.declared.decide.Decision.the-variants as decision
 use Rattle.verdict.specs.declared.verdicts.Verdict.{Verdict}
 use Rattle.verdict.specs.declared.verdicts.Verdict.the-variants.{Covered, Gap, Undecided, Refused}
 
@@ -24,12 +22,6 @@ asked text depth =
     choose (leb (length text) textCeiling)
     (choose (leb depth depthCeiling) (reading text) (refusal 2 0))
     (refusal 1 textCeiling)
-
--- the verdict that a decision is
-abbrev pub verdictOf : Decision → Verdict
-verdictOf decision.Covered = Covered
-verdictOf (decision.Gap s) = Gap s
-verdictOf decision.Undecided = Undecided
 
 -- the verdict on a guard of n flags
 abbrev pub GuardSays : ℕ → Guard → ℕ → Verdict → Type 0

@@ -1,3 +1,3 @@
-pub mod Decision
 pub mod Check
 pub mod Desk
+pub mod contracts

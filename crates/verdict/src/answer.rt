@@ -4,7 +4,7 @@ use crate::decide::decide;
 use gaps::writing::Found;
 use search::search;
 ghost use mathlib.Core.Path.{_≡_};
-ghost use Rattle.verdict.specs.Decision.{FromGuard, Decided, FullyDecided, firstGap};
+ghost use Rattle.verdict.specs.contracts.Decision.{FromGuard, Decided, FullyDecided, firstGap};
 
 // No gap is covered.
 fn decision_of(found: Found) -> Decision

@@ -8,11 +8,11 @@ use relation::joining::join;
 use saturation::saturate::saturate;
 use steps::rest::FIRST;
 ghost use Prim.Native.Nat.{ℕ, _+_, _*_, _≤_, _<_};
-ghost use Rattle.relation.specs.Classes.{kept};
-ghost use Rattle.steps.specs.Contracts.{tripletsAt};
+ghost use Rattle.relation.specs.contracts.Classes.{kept};
+ghost use Rattle.steps.specs.contracts.Resting.{tripletsAt};
 ghost use Rattle.saturation.specs.Saturation.{Stable, Flags};
-ghost use Rattle.saturation.specs.Contracts.{Ready};
-ghost use Rattle.verdict.specs.Decision.{Askable, Tested, Decided};
+ghost use Rattle.saturation.specs.contracts.Saturating.{Ready};
+ghost use Rattle.verdict.specs.contracts.Decision.{Askable, Tested, Decided};
 
 // The state of a gap has the first flag as its highest bit.
 pub enum Decision {

@@ -2,7 +2,7 @@
 use crate::decide::Decision;
 use notation::refusal::Refusal;
 ghost use mathlib.Core.Path.{_≡_};
-ghost use Rattle.verdict.specs.Check.{verdictOf};
+ghost use Rattle.verdict.specs.contracts.Verdicts.{verdictOf};
 
 // The state of a gap has the first flag as its highest bit.
 pub enum Verdict {

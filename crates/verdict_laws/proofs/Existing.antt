@@ -17,7 +17,7 @@ use Rattle.steps.proofs.Sides.{Closed, held, held-closed}
 use Rattle.steps.proofs.Strongest.{x-holds, y-holds, z-holds}
 use Rattle.steps.proofs.StepLaws.{all-equal, contradicts-step, names-step, entry-contradicted, entry-held}
 use Rattle.saturation.specs.Saturation.{taking, Stable, SaturationOf, Flags}
-use Rattle.saturation.specs.Contracts.{HoldsSplit}
+use Rattle.saturation.specs.contracts.Saturating.{HoldsSplit}
 use Rattle.saturation.proofs.Splits.{split-below, split-held}
 use Rattle.saturation.proofs.Saturating.{saturated-joined}
 use Rattle.verdict_laws.proofs.Joins.{Small, join-exists}

@@ -2,7 +2,7 @@
 use Prim.Native.Nat.{_+_, _-_, _≤_}
 use native.Mathlib.Omega.{arith}
 use lib.ListN.{length}
-use Rattle.lines.specs.Lines.{LinesBefore}
+use Rattle.lines.specs.contracts.Cutting.{LinesBefore}
 use Rattle.lines.proofs.Cutting.{before-first, before-next, numbered, before-all, before-some}
 use borrow.Author.Needs.{needs}
 use Rattle.covercheck.proofs.answer_all.Statement.{statement}

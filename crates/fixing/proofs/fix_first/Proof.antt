@@ -4,7 +4,7 @@ use mathlib.Core.Path.{_≡_, refl, _∙_}
 use native.Mathlib.Omega.{arith}
 use native.Mathlib.Numerals.{add-one}
 use lib.ListN.{length, getD}
-use Rattle.fixing.specs.Fixing.{Fixing}
+use Rattle.fixing.specs.contracts.Fixing.{Fixing}
 use Rattle.truth.proofs.Computing.{named-below}
 use Rattle.fixing.proofs.Fixes.{fixing-start, fixing-done}
 use Rattle.fixing.proofs.Standing.{started, fixing-again, operand-below}

@@ -10,8 +10,8 @@ use Rattle.notation.specs.Ceilings.{bracketCeiling}
 use Rattle.notation.specs.Tokens as tokens
 use Rattle.notation.specs.Walk.{operand as operand-wanted}
 use Rattle.notation.specs.Grammar.{rightLevel, toTheRight, andOf, orOf, impliesOf, sameOf, inBrackets}
-use Rattle.notation.specs.Cut.{ends}
-use Rattle.operands.specs.Levels.{plain, operandsAt, bangs, joinedPart, FoundPart, AdvancedSays}
+use Rattle.notation.specs.contracts.Cut.{ends}
+use Rattle.operands.specs.contracts.Levels.{plain, operandsAt, bangs, joinedPart, FoundPart, AdvancedSays}
 use Rattle.operands.specs.declared.At.{At}
 use Rattle.operands.specs.declared.Part.{Part}
 use Rattle.operands.specs.declared.Operand.{Operand}

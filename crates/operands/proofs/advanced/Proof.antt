@@ -1,7 +1,7 @@
 -- `operands::advanced` meets its contract: the next token is cut, and all else is handed on.
 use mathlib.Core.Path.{sym, ap, subst, _∙_}
-use Rattle.operands.specs.Levels.{AdvancedSays, passedOn}
-use Rattle.notation.specs.Cut.{CutSays}
+use Rattle.operands.specs.contracts.Levels.{AdvancedSays, passedOn}
+use Rattle.notation.specs.contracts.Cut.{CutSays}
 use Rattle.notation.specs.declared.tokens.Cut.{Cut}
 use Rattle.operands.specs.declared.Operand.{Operand}
 use Rattle.operands.proofs.Stepping.{advanced-found, advanced-refused}

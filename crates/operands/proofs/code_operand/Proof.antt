@@ -3,9 +3,9 @@ use mathlib.Core.Path.{sym, ap, subst}
 use Prim.Native.Nat.{ℕ, _+_}
 use native.Mathlib.Omega.{arith}
 use mathlib.Core.List.{List}
-use Rattle.operands.specs.Levels.{AtomSays}
-use Rattle.notation.specs.Codes.{entered}
-use Rattle.notation.specs.Cut.{ends}
+use Rattle.operands.specs.contracts.Levels.{AtomSays}
+use Rattle.notation.specs.contracts.Codes.{entered}
+use Rattle.notation.specs.contracts.Cut.{ends}
 use Rattle.notation.specs.Guard.{flag}
 use Rattle.operands.proofs.Operands.{one-token, known-token, new-token, too-many}
 use borrow.Author.Needs.{needs}

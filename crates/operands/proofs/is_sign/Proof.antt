@@ -1,7 +1,7 @@
 -- `operands::is_sign` meets its contract, kind by kind.
 use mathlib.Core.Path.{sym, ap, _∙_}
-use Rattle.notation.specs.Cut.{signOf}
-use Rattle.operands.specs.Levels.{kindIs}
+use Rattle.notation.specs.contracts.Cut.{signOf}
+use Rattle.operands.specs.contracts.Levels.{kindIs}
 use borrow.Author.Needs.{needs}
 use Rattle.operands.proofs.is_sign.Statement.{statement}
 use Rattle.operands.proofs.is_sign.Tie as tie

@@ -1,6 +1,6 @@
 -- `operands::passed_on` meets its contract, by cases.
 use mathlib.Core.Path.{sym, ap}
-use Rattle.operands.specs.Levels.{passedOn}
+use Rattle.operands.specs.contracts.Levels.{passedOn}
 use borrow.Author.Needs.{needs}
 use Rattle.operands.proofs.passed_on.Statement.{statement}
 use Rattle.operands.proofs.passed_on.Tie as tie

@@ -1,5 +1,5 @@
 -- `operands::same_connective` meets its contract: signs are the same where they bind as tight.
-use Rattle.notation.specs.Cut.{signOf}
+use Rattle.notation.specs.contracts.Cut.{signOf}
 use Rattle.operands.proofs.Stepping.{same-binding}
 use borrow.Author.Needs.{needs}
 use Rattle.operands.proofs.same_connective.Statement.{statement}

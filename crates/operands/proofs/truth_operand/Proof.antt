@@ -1,7 +1,7 @@
 -- `operands::truth_operand` meets its contract: true is the literal 0, false the literal 1.
 use mathlib.Core.Path.{ap}
 use native.Mathlib.Omega.{arith}
-use Rattle.notation.specs.Cut.{ends}
+use Rattle.notation.specs.contracts.Cut.{ends}
 use Rattle.notation.specs.Guard.{truth}
 use Rattle.operands.proofs.Operands.{one-token, truth-token}
 use Rattle.operands.proofs.truth_operand.Statement.{statement}

@@ -4,7 +4,7 @@ use mathlib.Core.Path.{_≡_}
 use native.Mathlib.Omega.{arith}
 use native.Mathlib.Numerals.{add-one}
 use native.Mathlib.Nat.{mul-le-mul-right, le-trans}
-use Rattle.rows.specs.Rows.{Evaluated}
+use Rattle.rows.specs.contracts.Rows.{Evaluated}
 use Rattle.truth.proofs.Computing.{named-below}
 use Rattle.rows.proofs.Evaluating.{evaluated-none, evaluated-more}
 use Rattle.rows.proofs.evaluate.Statement.{statement}

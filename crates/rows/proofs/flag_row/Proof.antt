@@ -2,7 +2,7 @@
 use Prim.Native.Nat.{_-_, _≤_}
 use mathlib.Core.Path.{_≡_}
 use native.Mathlib.Omega.{arith}
-use Rattle.rows.specs.Rows.{FlagMade}
+use Rattle.rows.specs.contracts.Rows.{FlagMade}
 use Rattle.rows.proofs.Flags.{flag-none, flag-more}
 use Rattle.rows.proofs.flag_row.Statement.{statement}
 use Rattle.rows.proofs.flag_row.Tie as tie

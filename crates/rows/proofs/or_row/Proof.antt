@@ -4,7 +4,7 @@ use mathlib.Core.Path.{_≡_, ap, ap₂}
 use native.Mathlib.Omega.{arith}
 use lib.ListN.{getD}
 use lib.Bits.{bitOr, bitXor}
-use Rattle.rows.specs.Rows.{RowMade}
+use Rattle.rows.specs.contracts.Rows.{RowMade}
 use Rattle.rows.proofs.RowsMade.{row-none, row-more}
 use Rattle.rows.proofs.or_row.Statement.{statement}
 use Rattle.rows.proofs.or_row.Tie as tie

@@ -2,7 +2,7 @@
 use Prim.Native.Nat.{_+_, _-_, _^_, _≤_}
 use mathlib.Core.Path.{_≡_, refl}
 use native.Mathlib.Omega.{arith}
-use Rattle.rows.specs.Rows.{RowMade}
+use Rattle.rows.specs.contracts.Rows.{RowMade}
 use Rattle.rows.proofs.RowsMade.{row-none, row-more}
 use Rattle.rows.proofs.true_row.Statement.{statement}
 use Rattle.rows.proofs.true_row.Tie as tie

@@ -2,7 +2,7 @@
 use Prim.Native.Nat.{ℕ, _%_}
 use mathlib.Core.Path.{_≡_, sym}
 use borrow.Author.Tests.{eq-eqb, ne-eqb}
-use Rattle.rows.specs.Rows.{turned}
+use Rattle.rows.specs.contracts.Rows.{turned}
 use Rattle.rows.proofs.turn.Statement.{statement}
 use Rattle.rows.proofs.turn.Tie as tie
 

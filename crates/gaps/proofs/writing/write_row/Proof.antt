@@ -3,7 +3,7 @@ use Prim.Native.Nat.{ℕ, suc, _+_, _*_, _-_, _/_, _≤_}
 use mathlib.Core.Path.{_≡_, ap, _∙_}
 use native.Mathlib.Omega.{arith}
 use borrow.Author.Needs.{needs}
-use Rattle.gaps.specs.Writing.{since}
+use Rattle.gaps.specs.contracts.Rows.{since}
 use Rattle.rows.proofs.Gates.{rows-apart}
 use Rattle.gaps.proofs.RowWriting.{Stretch, stretch-start, stretch-more, stretch-stop, stretch-done, rowValue, row-word, row-whole, words-within}
 use Rattle.gaps.proofs.writing.write_row.Statement.{statement}

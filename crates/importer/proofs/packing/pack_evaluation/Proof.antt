@@ -6,7 +6,7 @@ use mir.Val.{boolByte}
 use Rattle.notation.specs.Tokens.{choose}
 use Rattle.truth.specs.declared.evaluate.Evaluation.{Evaluation}
 use Rattle.importer.specs.Packed.{packedEvaluation}
-use Rattle.importer.specs.Fits.{EvaluationFits}
+use Rattle.importer.specs.contracts.Fits.{EvaluationFits}
 use borrow.Author.Needs.{needs}
 use Rattle.importer.proofs.packing.pack_evaluation.Statement.{statement}
 use Rattle.importer.proofs.packing.pack_evaluation.Tie as tie

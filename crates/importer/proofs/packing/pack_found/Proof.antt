@@ -5,7 +5,7 @@ use native.Mathlib.Omega.{arith}
 use Rattle.notation.specs.Ceilings.{flagCeiling}
 use Rattle.gaps.specs.declared.writing.Found.{Found}
 use Rattle.importer.specs.Packed.{packedFound}
-use Rattle.importer.specs.Fits.{FoundFits}
+use Rattle.importer.specs.contracts.Fits.{FoundFits}
 use borrow.Author.Needs.{needs}
 use Rattle.importer.proofs.packing.pack_found.Statement.{statement}
 use Rattle.importer.proofs.packing.pack_found.Tie as tie

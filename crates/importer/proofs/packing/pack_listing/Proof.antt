@@ -2,7 +2,7 @@
 use mathlib.Core.Path.{subst, sym, ap, _∙_}
 use Rattle.listing.specs.declared.Listing.{Listing}
 use Rattle.importer.specs.Packed.{packedListing}
-use Rattle.importer.specs.Fits.{ListingFits}
+use Rattle.importer.specs.contracts.Fits.{ListingFits}
 use borrow.Author.Needs.{needs}
 use Rattle.importer.proofs.packing.pack_listing.Statement.{statement}
 use Rattle.importer.proofs.packing.pack_listing.Tie as tie

@@ -5,7 +5,7 @@ use native.Mathlib.Omega.{arith}
 use Rattle.notation.specs.Ceilings.{textCeiling, codeCeiling}
 use Rattle.reading.specs.declared.name.Named.{Named}
 use Rattle.importer.specs.Packed.{packedNamed}
-use Rattle.importer.specs.Fits.{NamedFits}
+use Rattle.importer.specs.contracts.Fits.{NamedFits}
 use borrow.Author.Needs.{needs}
 use Rattle.importer.proofs.packing.pack_named.Statement.{statement}
 use Rattle.importer.proofs.packing.pack_named.Tie as tie

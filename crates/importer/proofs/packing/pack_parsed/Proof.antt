@@ -3,7 +3,7 @@ use mathlib.Core.Path.{subst, sym, ap, _∙_}
 use native.Mathlib.Omega.{arith}
 use Rattle.reading.specs.declared.parse.Parsed.{Parsed}
 use Rattle.importer.specs.Packed.{packedParsed}
-use Rattle.importer.specs.Fits.{GuardFits, ParsedFits}
+use Rattle.importer.specs.contracts.Fits.{GuardFits, ParsedFits}
 use borrow.Author.Needs.{needs}
 use Rattle.importer.proofs.packing.pack_parsed.Statement.{statement}
 use Rattle.importer.proofs.packing.pack_parsed.Tie as tie

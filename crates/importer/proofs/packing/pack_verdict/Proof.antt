@@ -5,7 +5,7 @@ use native.Mathlib.Omega.{arith}
 use Rattle.notation.specs.Ceilings.{flagCeiling}
 use Rattle.verdict.specs.declared.verdicts.Verdict.{Verdict}
 use Rattle.importer.specs.Packed.{packedVerdict}
-use Rattle.importer.specs.Fits.{VerdictFits}
+use Rattle.importer.specs.contracts.Fits.{VerdictFits}
 use borrow.Author.Needs.{needs}
 use Rattle.importer.proofs.packing.pack_verdict.Statement.{statement}
 use Rattle.importer.proofs.packing.pack_verdict.Tie as tie

@@ -3,7 +3,7 @@ use Prim.Native.Nat.{_+_, _-_, _≤_}
 use native.Mathlib.Omega.{arith}
 use mathlib.Core.Path.{refl}
 use lib.ListN.{length, take}
-use Rattle.lines.specs.Put.{Puts}
+use Rattle.lines.specs.contracts.Put.{Puts}
 use Rattle.lines.proofs.Putting.{puts-as, puts-none, puts-more, puts-whole}
 use borrow.Author.Needs.{needs}
 use Rattle.lines.proofs.put.put_all.Statement.{statement}

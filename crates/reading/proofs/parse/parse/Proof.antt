@@ -1,11 +1,12 @@
 -- `reading::parse::parse` meets its contract: the first token, the loosest level and the end decide what the text says.
 use mathlib.Core.Path.{refl, sym, ap, subst, _∙_}
 use Prim.Native.Nat.{_-_}
-use Rattle.notation.specs.Cut.{CutSays}
+use Rattle.notation.specs.contracts.Cut.{CutSays}
 use Rattle.notation.specs.Grammar.{sameOf}
 use Rattle.notation.specs.Reading.{Reading}
-use Rattle.operands.specs.Levels.{plain, operandsAt, passedOn}
-use Rattle.reading.specs.Service.{ParseSays, unreadAs, refusedWith}
+use Rattle.operands.specs.contracts.Levels.{plain, operandsAt, passedOn}
+use Rattle.reading.specs.Service.{refusedWith}
+use Rattle.reading.specs.contracts.Parsing.{ParseSays, unreadAs}
 use Rattle.notation.specs.Ceilings.{textCeiling}
 use Rattle.notation.specs.declared.tokens.Cut.{Cut}
 use Rattle.levels.proofs.Joining.{found-of, refused-of}

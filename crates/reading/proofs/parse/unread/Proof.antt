@@ -1,6 +1,6 @@
 -- `reading::parse::unread` meets its contract, by cases.
 use mathlib.Core.Path.{sym, ap}
-use Rattle.reading.specs.Service.{unreadAs}
+use Rattle.reading.specs.contracts.Parsing.{unreadAs}
 use borrow.Author.Needs.{needs}
 use Rattle.reading.proofs.parse.unread.Statement.{statement}
 use Rattle.reading.proofs.parse.unread.Tie as tie

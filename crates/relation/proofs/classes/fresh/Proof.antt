@@ -4,7 +4,7 @@ use Prim.Native.Nat.{ℕ, _*_, _-_, _≤_, _<_}
 use mathlib.Core.Path.{_≡_}
 use native.Mathlib.Omega.{arith}
 use lib.ListN.{length}
-use Rattle.relation.specs.Classes.{variableCeiling, entry}
+use Rattle.relation.specs.contracts.Classes.{variableCeiling, entry}
 use Rattle.relation.proofs.ClassLaws.{fresh-canonical, fresh-only, fresh-done, stored-below}
 use Rattle.relation.proofs.classes.fresh.Statement.{statement}
 use Rattle.relation.proofs.classes.fresh.Tie as tie

@@ -3,7 +3,7 @@ use Prim.Native.Nat.{ℕ, _/_, _<_, _≤_}
 use mathlib.Core.Path.{_≡_, _∙_, sym, ap}
 use native.Mathlib.Omega.{arith}
 use borrow.Author.Tests.{eq-eqb, ne-eqb}
-use Rattle.relation.specs.Classes.{entry}
+use Rattle.relation.specs.contracts.Classes.{entry}
 use Rattle.relation.proofs.ClassLaws.{relation-all, leads-same}
 use Rattle.relation.proofs.JoinLaws.{joined-none, joined-broken, joined-leads, joined-turned, leaders-of}
 use borrow.Author.Needs.{needs}

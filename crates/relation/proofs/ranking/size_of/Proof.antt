@@ -7,7 +7,7 @@ use lib.ListN.{getD}
 use lib.Dec.{eqb}
 use borrow.Author.Tests.{eq-eqb, ne-eqb}
 use Rattle.notation.specs.Tokens.{choose}
-use Rattle.relation.specs.Classes.{entry, own}
+use Rattle.relation.specs.contracts.Classes.{entry, own}
 use Rattle.relation.proofs.ClassLaws.{entry-at}
 use Rattle.relation.proofs.RankLaws.{own-none, own-most, chosen-most, counted-on, rank-contradictory, rank-consistent}
 use Rattle.relation.proofs.ranking.size_of.Statement.{statement}

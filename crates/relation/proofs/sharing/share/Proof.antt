@@ -1,6 +1,6 @@
 -- `relation::sharing::share` meets its contract: a contradictory relation holds all, so that the other is what they share.
 use borrow.Author.Tests.{eq-eqb, ne-eqb}
-use Rattle.relation.specs.Classes.{entry, kept}
+use Rattle.relation.specs.contracts.Classes.{entry, kept}
 use Rattle.relation.proofs.ClassLaws.{relation-all, true-leads}
 use Rattle.relation.proofs.ShareLaws.{common-first, common-second}
 use borrow.Author.Needs.{needs}

@@ -1,7 +1,7 @@
 -- `rest_compared::compare::rested` meets its contract: a fresh relation is one of any number of variables.
 use native.Mathlib.Omega.{arith}
 use borrow.Author.Needs.{needs}
-use Rattle.steps.specs.Contracts.{inUse}
+use Rattle.steps.specs.contracts.Resting.{inUse}
 use Rattle.relation.proofs.ClassLaws.{classes-more}
 use Rattle.rest_compared.proofs.compare.rested.Statement.{statement}
 use Rattle.rest_compared.proofs.compare.rested.Tie as tie

@@ -5,10 +5,10 @@ use borrow.Author.Needs.{needs}
 use mathlib.Core.Path.{_≡_, sym, _∙_}
 use native.Mathlib.Omega.{arith}
 use native.Mathlib.Nat.{pos-of-ne-zero}
-use Rattle.relation.specs.Classes.{entry}
+use Rattle.relation.specs.contracts.Classes.{entry}
 use Rattle.relation.proofs.RankLaws.{rank-most}
 use Rattle.relation.proofs.ClassLaws.{lowers}
-use Rattle.steps.specs.Contracts.{inUse}
+use Rattle.steps.specs.contracts.Resting.{inUse}
 use Rattle.saturation.proofs.Saturating.{Sweeping, Saturating, saturated-rested, saturating-start, saturating-next, saturating-done, sweeping-start, sweeping-next, sweeping-done, divided-tied, divided-idle, divided-rested}
 use borrow.Fn.Kinds.{In}
 use borrow.Fn.PlainCycle.{Measures, is, falls, and}

@@ -3,8 +3,8 @@ use borrow.Author.Needs.{needs}
 use Prim.Native.Nat.{_*_, _-_, _≤_}
 use native.Mathlib.Omega.{arith}
 use borrow.Author.Tests.{eq-eqb}
-use Rattle.relation.specs.Classes.{entry}
-use Rattle.steps.specs.Contracts.{inUse}
+use Rattle.relation.specs.contracts.Classes.{entry}
+use Rattle.steps.specs.contracts.Resting.{inUse}
 use Rattle.steps.proofs.Resting.{Passing, usable-at, passing-start, passing-next, passing-done, passing-broken}
 use Rattle.steps.proofs.rest.pass.Statement.{statement}
 use Rattle.steps.proofs.rest.pass.Tie as tie

@@ -1,9 +1,9 @@
 -- `steps::rest::rest` meets its contract: a pass that does not make the rank fall has changed nothing.
 use borrow.Author.Needs.{needs}
 use native.Mathlib.Omega.{arith}
-use Rattle.relation.specs.Classes.{entry}
+use Rattle.relation.specs.contracts.Classes.{entry}
 use Rattle.relation.proofs.RankLaws.{rank-most}
-use Rattle.steps.specs.Contracts.{inUse}
+use Rattle.steps.specs.contracts.Resting.{inUse}
 use Rattle.steps.proofs.Resting.{Settling, settling-start, settling-next, settling-done}
 use Rattle.steps.proofs.rest.rest.Statement.{statement}
 use Rattle.steps.proofs.rest.rest.Tie as tie

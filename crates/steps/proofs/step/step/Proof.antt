@@ -1,9 +1,9 @@
 -- `steps::step::step` meets its contract: by the entry at the pattern of where x, y and z lead.
 use Prim.Native.Nat.{ℕ, _<_}
 use mathlib.Core.Path.{sym, _∙_, subst}
-use Rattle.relation.specs.Classes.{lead, entry as at}
-use Rattle.steps.specs.Leading.{Patterned}
-use Rattle.steps.specs.Contracts.{Named}
+use Rattle.relation.specs.contracts.Classes.{lead, entry as at}
+use Rattle.steps.specs.contracts.Leading.{Patterned}
+use Rattle.steps.specs.contracts.Resting.{Named}
 use Rattle.steps.proofs.Stepping.{patterned, entry-below, entry-own, stepped-none, stepped-broken, stepped-named}
 use borrow.Author.Needs.{needs}
 use Rattle.steps.proofs.step.step.Statement.{statement}

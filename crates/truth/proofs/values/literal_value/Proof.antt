@@ -5,8 +5,8 @@ use mathlib.Core.Bool.{Bool, false, not}
 use mathlib.Core.List.{List}
 use lib.ListN.{getD}
 use borrow.Author.Tests.{eq-eqb, ne-eqb}
-use Rattle.truth.specs.Computed.{literalValue}
-use Rattle.truth.specs.Values.{valueIn}
+use Rattle.truth.specs.contracts.Computed.{literalValue}
+use Rattle.truth.specs.contracts.Values.{valueIn}
 use borrow.Author.Needs.{needs}
 use Rattle.truth.proofs.values.literal_value.Statement.{statement}
 use Rattle.truth.proofs.values.literal_value.Tie as tie

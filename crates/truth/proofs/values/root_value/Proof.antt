@@ -6,8 +6,8 @@ use lib.ListN.{length}
 use borrow.Author.Needs.{needs}
 use Rattle.notation.specs.Ceilings.{connectiveCeiling}
 use Rattle.notation.specs.Triplets.{tripletVariable}
-use Rattle.truth.specs.Computed.{Valued}
-use Rattle.truth.specs.Values.{valueIn}
+use Rattle.truth.specs.contracts.Computed.{Valued}
+use Rattle.truth.specs.contracts.Values.{valueIn}
 use Rattle.truth.proofs.Valuing.{valued-none, valued-set, operands-known, root-known, root-set}
 use Rattle.truth.proofs.values.root_value.Statement.{statement}
 use Rattle.truth.proofs.values.root_value.Tie as tie

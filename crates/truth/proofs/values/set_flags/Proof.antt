@@ -4,7 +4,7 @@ use mathlib.Core.Path.{_≡_, _∙_}
 use mathlib.Core.Bool.{true}
 use native.Mathlib.Omega.{arith}
 use lib.ListN.{length-set}
-use Rattle.truth.specs.Values.{FlagsSet}
+use Rattle.truth.specs.contracts.Values.{FlagsSet}
 use Rattle.truth.proofs.Valuing.{bit-read, flags-none, flags-more, flags-all}
 use Rattle.truth.proofs.values.set_flags.Statement.{statement}
 use Rattle.truth.proofs.values.set_flags.Tie as tie

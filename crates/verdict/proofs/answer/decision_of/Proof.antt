@@ -1,6 +1,6 @@
 -- `verdict::answer::decision_of` meets its contract, by the two cases.
 use mathlib.Core.Path.{sym, ap}
-use Rattle.verdict.specs.Decision.{firstGap}
+use Rattle.verdict.specs.contracts.Decision.{firstGap}
 use borrow.Author.Needs.{needs}
 use Rattle.verdict.proofs.answer.decision_of.Statement.{statement}
 use Rattle.verdict.proofs.answer.decision_of.Tie as tie

@@ -3,10 +3,10 @@ use borrow.Author.Needs.{needs}
 use Prim.Native.Nat.{ℕ, _+_, _*_, _-_, _/_, _≤_, _<_}
 use mathlib.Core.Path.{_≡_, sym, ap, _∙_}
 use native.Mathlib.Omega.{arith}
-use Rattle.notation.specs.Triplets.{signed}
+use Rattle.notation.specs.contracts.Writing.{signed}
 use Rattle.relation.proofs.LiteralLaws.{signed-half}
 use Rattle.relation.proofs.ClassLaws.{lowers, classes-more}
-use Rattle.steps.specs.Contracts.{inUse}
+use Rattle.steps.specs.contracts.Resting.{inUse}
 use Rattle.verdict.proofs.Trying.{Trying, trying-start, trying-next, trying-fits, decided-covered, decided-gap, decided-undecided}
 use Rattle.verdict.proofs.decide.decide.Statement.{statement}
 use Rattle.verdict.proofs.decide.decide.Tie as tie

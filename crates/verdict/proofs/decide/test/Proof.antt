@@ -3,7 +3,7 @@ use Prim.Native.Nat.{ℕ, _+_, _*_}
 use mathlib.Core.Path.{sym, _∙_}
 use native.Mathlib.Omega.{arith}
 use Rattle.relation.proofs.ClassLaws.{lowers}
-use Rattle.steps.specs.Contracts.{inUse}
+use Rattle.steps.specs.contracts.Resting.{inUse}
 use Rattle.verdict.proofs.Trying.{tested-true, tested-false, tested-low, tested-high}
 use borrow.Author.Needs.{needs}
 use Rattle.verdict.proofs.decide.test.Statement.{statement}

@@ -1,6 +1,6 @@
 -- `verdict::verdicts::verdict_of` meets its contract, by the three cases.
 use mathlib.Core.Path.{sym, ap}
-use Rattle.verdict.specs.Check.{verdictOf}
+use Rattle.verdict.specs.contracts.Verdicts.{verdictOf}
 use borrow.Author.Needs.{needs}
 use Rattle.verdict.proofs.verdicts.verdict_of.Statement.{statement}
 use Rattle.verdict.proofs.verdicts.verdict_of.Tie as tie

@@ -3,7 +3,7 @@ use Prim.Native.Nat.{ℕ, _^_, _≤_, _<_}
 use Rattle.notation.specs.Ceilings.{textCeiling, codeCeiling, flagCeiling, connectiveCeiling}
 use Rattle.notation.specs.Triplets.{literalCeiling}
 use Rattle.notation.specs.declared.refusal.Refusal.{Refusal}
-use Rattle.reading.specs.Service.{lastRefusal}
+use Rattle.reading.specs.contracts.Parsing.{lastRefusal}
 use Rattle.reading.specs.declared.parse.Guard as counted
 use Rattle.reading.specs.declared.parse.Parsed.{Parsed}
 use Rattle.reading.specs.declared.parse.Parsed.the-variants as parsed

@@ -8,8 +8,8 @@ use Rattle.notation.specs.Ceilings.{connectiveCeiling}
 use Rattle.notation.specs.Triplets.{tripletVariable}
 use Rattle.gaps.specs.declared.writing.Found.{Found}
 use Rattle.gaps.specs.Gaps.{falseFrom}
-use Rattle.rows.specs.Rows.{FlagRows}
-use Rattle.gaps.specs.Writing.{Writes, since}
+use Rattle.rows.specs.contracts.Rows.{FlagRows}
+use Rattle.gaps.specs.contracts.Rows.{Writes, since}
 
 -- rows of so many words for all variables, with room for the states of so many flags, whose rows are right
 pub record Rows (low width : ℕ) (rows : List ℕ) : Type 0 where

@@ -7,10 +7,10 @@ use mathlib.Core.Logic.{_⊎_}
 use Rattle.notation.specs.Triplets.{Triplet}
 use Rattle.notation.specs.Ceilings.{flagCeiling}
 use Rattle.relation.specs.Relation.{Rel, Within}
-use Rattle.relation.specs.Least.{Growth}
-use Rattle.relation.specs.Classes.{Classes, kept}
+use Rattle.relation.specs.contracts.Growing.{Growth}
+use Rattle.relation.specs.contracts.Classes.{Classes, kept}
 use Rattle.steps.specs.Rest.{NoStepEnlarges}
-use Rattle.steps.specs.Contracts.{Readable, inUse, tripletsAt}
+use Rattle.steps.specs.contracts.Resting.{Readable, inUse, tripletsAt}
 use Rattle.saturation.specs.Saturation.{taking, Stable, Saturated, SaturationOf, Flags}
 
 -- S ties the variable f to true or to false

@@ -4,7 +4,7 @@ use mathlib.Core.Path.{_≡_}
 use mathlib.Core.List.{List, _++_}
 use lib.ListN.{length, take, drop}
 use Rattle.notation.specs.Ceilings.{codeCeiling, flagCeiling}
-use Rattle.notation.specs.Codes.{codeIn, InText}
+use Rattle.notation.specs.contracts.Codes.{codeIn, InText}
 
 -- the bytes stand in the slice from a place on, up to r; what stood before and behind them still does
 pub record Puts (before : List ℕ) (place : ℕ) (bytes after : List ℕ) (r : ℕ) : Type 0 where

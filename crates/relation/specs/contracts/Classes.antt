@@ -7,7 +7,7 @@ use lib.ListN.{length, getD}
 use lib.Dec.{eqb}
 use Rattle.notation.specs.Ceilings.{flagCeiling, connectiveCeiling}
 use Rattle.notation.specs.Tokens.{choose}
-use Rattle.notation.specs.Triplets.{signed}
+use Rattle.notation.specs.contracts.Writing.{signed}
 use Rattle.relation.specs.Relation.{Rel}
 
 -- the variables: true, the flags and the triplets

@@ -8,7 +8,7 @@ use lib.Dec.{eqb}
 use Rattle.notation.specs.Ceilings.{flagCeiling, connectiveCeiling}
 use Rattle.notation.specs.Tokens.{same, implies, choose}
 use Rattle.notation.specs.Triplets.{tripletVariable}
-use Rattle.notation.specs.Shape.{Names, Shape, kindAt, yAt, zAt}
+use Rattle.notation.specs.contracts.Shape.{Names, Shape, kindAt, yAt, zAt}
 use Rattle.truth.specs.Value.{bit, table}
 
 -- the value of a literal, where v gives the values of variables: 2v is variable v, 2v + 1 its negation

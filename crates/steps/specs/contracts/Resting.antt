@@ -4,11 +4,12 @@ use mathlib.Core.Path.{_≡_}
 use mathlib.Core.List.{List, [], _∷_, _++_}
 use lib.ListN.{length, getD}
 use Rattle.notation.specs.Triplets.{Triplet}
-use Rattle.notation.specs.Shape.{kindAt, yAt, zAt, Shape}
+use Rattle.notation.specs.contracts.Shape.{kindAt, yAt, zAt, Shape}
 use Rattle.notation.specs.Ceilings.{flagCeiling, connectiveCeiling}
 use Rattle.relation.specs.Relation.{Rel, IsRelation, Within}
-use Rattle.relation.specs.Least.{Least, Growth}
-use Rattle.relation.specs.Classes.{Classes, kept}
+use Rattle.relation.specs.Least.{Least}
+use Rattle.relation.specs.contracts.Growing.{Growth}
+use Rattle.relation.specs.contracts.Classes.{Classes, kept}
 use Rattle.steps.specs.Step.{HoldsStep}
 use Rattle.steps.specs.Table.{entry, NamesHold}
 use Rattle.steps.specs.Rest.{NoStepEnlarges, RestOf}

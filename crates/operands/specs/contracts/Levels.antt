@@ -11,8 +11,8 @@ use Rattle.notation.specs.Walk.{Flag, refused, walk, operand, after}
 use Rattle.notation.specs.Guard.{Guard, connectives}
 use Rattle.notation.specs.Grammar.{Level, found, signNext, past, sameSign, closed, operandOf, inBrackets}
 use Rattle.notation.specs.Triplets.{literal, triplets, numbers, tripletVariable, literalOf, literalCeiling}
-use Rattle.notation.specs.Cut.{ahead, ends, signOf, FaultyHere}
-use Rattle.notation.specs.Codes.{flagsIn, InText}
+use Rattle.notation.specs.contracts.Cut.{ahead, ends, signOf, FaultyHere}
+use Rattle.notation.specs.contracts.Codes.{flagsIn, InText}
 use Rattle.notation.specs.declared.tokens.Kind.{Kind}
 use Rattle.notation.specs.declared.tokens.Kind.the-variants as kind
 use Rattle.notation.specs.declared.tokens.Token.{Token}

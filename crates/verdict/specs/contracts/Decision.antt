@@ -7,8 +7,8 @@ use lib.ListN.{length, take}
 use Rattle.notation.specs.Ceilings.{flagCeiling, connectiveCeiling}
 use Rattle.notation.specs.Guard.{Guard, connectives}
 use Rattle.notation.specs.Triplets.{literal, triplets, numbers}
-use Rattle.relation.specs.Classes.{Classes, kept}
-use Rattle.steps.specs.Contracts.{Readable, inUse, tripletsAt}
+use Rattle.relation.specs.contracts.Classes.{Classes, kept}
+use Rattle.steps.specs.contracts.Resting.{Readable, inUse, tripletsAt}
 use Rattle.saturation.specs.Saturation.{taking, Saturated, SaturationOf, Flags}
 use Rattle.saturation.specs.Answer.{Proper, Verdict, covered, gap, undecided, flagAs, Answer}
 use Rattle.gaps.specs.declared.writing.Found.{Found}

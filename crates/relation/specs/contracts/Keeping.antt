@@ -8,7 +8,7 @@ use lib.Dec.{eqb}
 use Rattle.notation.specs.Tokens.{choose}
 use Rattle.relation.specs.Relation.{Rel}
 use Rattle.relation.specs.Least.{Least, Holds}
-use Rattle.relation.specs.Classes.{variableCeiling, Classes, contradictory, entry, kept, lead}
+use Rattle.relation.specs.contracts.Classes.{variableCeiling, Classes, contradictory, entry, kept, lead}
 
 -- xs keeps the relation in which each literal equals itself alone
 pub record Fresh (xs : List ℕ) : Type 0 where

@@ -7,9 +7,9 @@ use lib.ListN.{length, getD}
 use lib.Dec.{eqb}
 use Rattle.notation.specs.Tokens.{choose}
 use Rattle.notation.specs.Triplets.{tripletVariable}
-use Rattle.notation.specs.Shape.{kindAt, yAt, zAt}
+use Rattle.notation.specs.contracts.Shape.{kindAt, yAt, zAt}
 use Rattle.truth.specs.Value.{bit}
-use Rattle.truth.specs.Computed.{literalValue, gate, Valued}
+use Rattle.truth.specs.contracts.Computed.{literalValue, gate, Valued}
 
 -- the value of the variable v in the state s, as rows of so many words have it
 unfoldable pub inRow : List ℕ → ℕ → ℕ → ℕ → Bool

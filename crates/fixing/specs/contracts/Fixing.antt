@@ -7,9 +7,9 @@ use mathlib.Core.Logic.{_⊎_}
 use lib.ListN.{length, getD}
 use Rattle.notation.specs.Tokens.{choose}
 use Rattle.notation.specs.Triplets.{tripletVariable, negation}
-use Rattle.notation.specs.Shape.{Names, Shape, kindAt, yAt, zAt}
+use Rattle.notation.specs.contracts.Shape.{Names, Shape, kindAt, yAt, zAt}
 use Rattle.truth.specs.Value.{bit}
-use Rattle.truth.specs.Computed.{literalValue, gate, computed}
+use Rattle.truth.specs.contracts.Computed.{literalValue, gate, computed}
 
 -- the literal r, of true or of an operand's variable, always has the value of a triplet of this kind of y and z
 pub record Stands (kind y z r : ℕ) : Type 0 where

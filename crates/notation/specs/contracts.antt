@@ -1,0 +1,4 @@
+pub mod Cut
+pub mod Codes
+pub mod Shape
+pub mod Writing
