@@ -1,4 +1,5 @@
 // One read or one write of the operating system: an interrupted one is made again, and one that would block waits.
+use crate::pause::pause;
 ghost use lib.ListN.{length};
 ghost use Rattle.covercheck.specs.contracts.Calls.{MovedSays};
 
@@ -11,14 +12,14 @@ pub enum Moved {
 // How often a call is made again at most: it has to end, and no machine lasts as long.
 const TURNS: u64 = 18446744073709551615;
 
-// Whether the call that just failed is to be made again, after letting others run.
+// Whether the call that just failed is to be made again: at once where it was interrupted, after a pause where it would block.
 fn is_passing() -> bool {
     let error = os::errno();
     if error == libc::EINTR {
         return true;
     }
     if error == libc::EAGAIN {
-        libc::sched_yield();
+        pause();
         return true;
     }
     false

@@ -2,6 +2,7 @@
 mod calls;
 mod input;
 mod output;
+mod pause;
 
 use input::Input;
 use input::read_whole;

@@ -27,7 +27,8 @@ same-bytes (a ∷ c) (b ∷ d) h =
     (λ (n : a ≡ b → ⊥). let t : false ≡ true = rw (ne-eqb a b n) at h in absurd (false≢true t))
     (split-eq a b)
 
-same-self : (c : Code) → sameCode c c ≡ true
+-- a code is the same as itself
+pub same-self : (c : Code) → sameCode c c ≡ true
 unfolding sameCode
 same-self [] = refl
 same-self (a ∷ c) = rw (eq-eqb a a refl) (same-self c)

@@ -2,31 +2,14 @@
 use Prim.Native.Nat.{ℕ, suc, _≤_, _<_}
 use native.Mathlib.Omega.{arith}
 use mathlib.Core.Path.{_≡_, refl, sym, ap, _∙_}
-use mathlib.Core.Logic.{⊎-elim}
 use mathlib.Core.Bool.{true, false, false≢true}
 use mathlib.Core.List.{List}
-use lib.Dec.{leb}
-use borrow.Author.Tests.{leb-true}
 use Rattle.notation.specs.Ceilings.{connectiveCeiling}
 use Rattle.notation.specs.Tokens.{Tokens, Sign, same, implies, or, and, stray, long, code, hash, bang, sign, opening, closing, end, at}
-use Rattle.notation.specs.Walk.{Flag, Outcome, refused, accepted, walk, operand, after, within}
+use Rattle.notation.specs.Walk.{Flag, accepted, walk, operand, after}
 use Rattle.notation.specs.Grammar.{sameSign, isSign, signNext, past}
-use Rattle.notation.proofs.Cases.{either}
+use Rattle.notation.proofs.Accepted.{not-accepted, within-kept}
 use Rattle.operands.specs.contracts.Levels.{binding}
-
--- a refusal is no acceptance
-pub not-accepted : (k p : ℕ) (w : List Flag) (j : ℕ) → refused k p ≡ accepted w j → ⊥
-not-accepted k p w j e = let z : _≡_ {A = ℕ} 0 1 = cc in omega arith
-
--- a walk that accepts is within the ceiling, and goes on
-pub kept : (k ceiling number p : ℕ) (rest : Outcome) (w : List Flag) (j : ℕ) → within k ceiling number p rest ≡ accepted w j →
-    (k ≤ ceiling) × (rest ≡ accepted w j)
-unfolding within
-kept k ceiling number p rest w j e =
-    ⊎-elim
-    (λ (h : leb k ceiling ≡ true). (leb-true k ceiling h, rw h at e))
-    (λ (h : leb k ceiling ≡ false). absurd (not-accepted number p w j (rw h at e)))
-    (either (leb k ceiling))
 
 -- where a sign stands next, the tokens are that sign and those past it
 pub record SignNext (ts : Tokens) : Type 0 where
@@ -50,7 +33,7 @@ sign-is s (at p closing ts) e = absurd (false≢true e)
 sign-kept : (d : ℕ) (u : List Flag) (m p : ℕ) (t : Sign) (ts : Tokens) (w : List Flag) (j : ℕ) → walk after d u m (at p (sign t) ts) ≡ accepted w j →
     m < connectiveCeiling
 unfolding walk
-sign-kept d u m p t ts w j e = kept (suc m) connectiveCeiling 8 p (walk operand d u (suc m) ts) w j e .0
+sign-kept d u m p t ts w j e = within-kept (suc m) connectiveCeiling 8 p (walk operand d u (suc m) ts) w j e
 
 pub sign-room : (s : Sign) (d : ℕ) (u : List Flag) (m : ℕ) (ts : Tokens) (w : List Flag) (j : ℕ) → signNext s ts ≡ true →
     walk after d u m ts ≡ accepted w j → m < connectiveCeiling

@@ -6,21 +6,17 @@ use mathlib.Core.Logic.{_⊎_, inl, inr, ⊎-elim}
 use mathlib.Core.Bool.{true, false}
 use mathlib.Core.List.{List, [], _∷_, _++_}
 use lib.ListN.{length, length-append}
-use borrow.Author.Tests.{eq-eqb, leb-true, leb-false, le-leb}
+use borrow.Author.Tests.{leb-true, leb-false, le-leb}
 use Rattle.notation.specs.Tokens.{Code, Tokens, end, at}
 use Rattle.notation.specs.Walk.{Flag, sameCode, known, seen}
 use Rattle.notation.specs.Grammar.{number}
 use Rattle.notation.proofs.Cases.{either}
 use Rattle.notation.proofs.Coding.{known-number, number-append, number-here}
 use Rattle.notation.proofs.Numbered.{seen-fine}
+use Rattle.reading_back.proofs.Codes.{same-self}
 use Rattle.text_laws.specs.Texts.{codeOf, seenAt, seenIn, IsFlag}
 
 -- ---- the number of a code
-same-self : (c : Code) → sameCode c c ≡ true
-unfolding sameCode
-same-self [] = refl
-same-self (a ∷ c) = rw (eq-eqb a a refl) (same-self c)
-
 -- a code that was seen has one of the numbers given
 pub number-known : (c : Code) (u : List Flag) → known c u ≡ true → number c u ≤ length u
 number-known c u h = leb-true (number c u) (length u) (sym (known-number c u) ∙ h)

@@ -15,10 +15,11 @@ use Rattle.notation.specs.Guard.{Guard, flag, truth, negated, connectives}
 use Rattle.notation.specs.Grammar.{Parsed, found, follow, number, closed, sameOf, operandOf, inBrackets, treeOf, tree}
 use Rattle.notation.specs.Reading.{refusal, guard, judged, reading}
 use Rattle.notation.proofs.Cases.{either}
+use Rattle.notation.proofs.Accepted.{not-accepted, within-accepted, within-kept}
 use Rattle.operands.specs.contracts.Levels.{plain, operandsAt}
 use Rattle.operands.proofs.Operands.{no-tighter}
 use Rattle.text_laws.specs.Texts.{whole, codeOf, leaves, seenAt}
-use Rattle.text_laws.proofs.Accepting.{not-accepted, kept, Closing, closing-is, Ended, end-is}
+use Rattle.text_laws.proofs.Accepting.{Closing, closing-is, Ended, end-is}
 use Rattle.text_laws.proofs.Passing.{size, endPlace, numbersAt, Passes, passes-one, passes-on}
 use Rattle.text_laws.proofs.Taking.{Takes, Taking, levels-take}
 
@@ -98,9 +99,10 @@ module _ (d : ℕ) (u : List Flag) (m p : ℕ) (ts : Tokens) where
       walk operand d u m (at p opening ts) ≡ accepted w j → Takes (plain (operandsAt d)) d 0 u m (at p opening ts)
   unfolding walk
   bracket-takes n w j l o e =
-      let k : (suc d ≤ bracketCeiling) × (walk operand (suc d) u m ts ≡ accepted w j) = kept (suc d) bracketCeiling 6 p (walk operand (suc d) u m ts) w j e in
-      let t : Takes (plain (sameOf (operandsAt (suc d)))) (suc d) 4 u m ts = o u m ts w j l (k .1) in
-      closed-takes t (k .0) (closing-is d (t .flags) (t .signs) (t .rest) w j (t .reads .stops) (sym (t .reads .walked) ∙ k .1))
+      let fits : suc d ≤ bracketCeiling = within-kept (suc d) bracketCeiling 6 p (walk operand (suc d) u m ts) w j e in
+      let on : walk operand (suc d) u m ts ≡ accepted w j = within-accepted (suc d) bracketCeiling 6 p (walk operand (suc d) u m ts) w j e in
+      let t : Takes (plain (sameOf (operandsAt (suc d)))) (suc d) 4 u m ts = o u m ts w j l on in
+      closed-takes t fits (closing-is d (t .flags) (t .signs) (t .rest) w j (t .reads .stops) (sym (t .reads .walked) ∙ on))
 
 operands-take : (n d : ℕ) → Taking (plain (operandsAt d)) d 0 n
 unfolding walk size
@@ -109,7 +111,7 @@ operands-take (suc n) d u m (end p) w j l e = absurd (not-accepted 5 p w j e)
 operands-take (suc n) d u m (at p stray ts) w j l e = absurd (not-accepted 3 p w j e)
 operands-take (suc n) d u m (at p long ts) w j l e = absurd (not-accepted 4 p w j e)
 operands-take (suc n) d u m (at p (code c) ts) w j l e =
-    code-takes d u m p ts c (kept (length (seen p c u)) flagCeiling 7 p (walk after d (seen p c u) m ts) w j e .0)
+    code-takes d u m p ts c (within-kept (length (seen p c u)) flagCeiling 7 p (walk after d (seen p c u) m ts) w j e)
 operands-take (suc n) d u m (at p (hash b) ts) w j l e = truth-takes d u m p ts b
 operands-take (suc n) d u m (at p bang ts) w j l e = bang-takes d u m p ts (operands-take n d u m ts w j (omega arith) e)
 operands-take (suc n) d u m (at p (sign s) ts) w j l e = absurd (not-accepted 5 p w j e)
