@@ -1,5 +1,8 @@
-/* How much stack the services take: each call runs on a stack of the size that is promised, with a page behind it that must not
- * be touched, and the deepest byte that it changed is printed. A call that needs more ends the program by a fault. */
+/* How much stack the entries take: each call runs on a stack of the size that the header promises, with a page behind it that must not
+ * be touched, and the deepest byte that it changed is printed. A call that needs more ends the program by a fault.
+ *
+ * Reading is tried on the worst texts of every kind: chains of each sign, nests, nests with chains at each level, refusals at the deepest
+ * place, and random texts; searching and saturating on guards that no simple rule decides. */
 #define _GNU_SOURCE
 #include "../../include/trestulan.h"
 
@@ -12,108 +15,233 @@
 #include <ucontext.h>
 #include <unistd.h>
 
-enum { PAGE = 4096, PAINT = 0xa5 };
+enum { PAGE = 4096, PAINT = 0xa5, CUT = 5, RANDOM = 400 };
+
+enum service { CHECK, EVALUATE, LIST, READ, NAME };
 
 struct call {
     const char *name;
+    enum service service;
+    uint64_t number;
     size_t most; /* bytes of stack */
-    int service; /* 0 check, 1 list */
-    unsigned long number;
-    int flags, signs;
-    int cut; /* seconds after which the call is left: its deepest level comes first */
 };
 
-static uint8_t text[4096];
+/* What the header promises of each entry. */
+static const struct call promised[] = {
+    {"check at depth 0", CHECK, 0, TRESTULAN_STACK},   {"check at depth 1", CHECK, 1, TRESTULAN_STACK},
+    {"check at depth 2", CHECK, 2, TRESTULAN_STACK},   {"check at depth 24", CHECK, 24, TRESTULAN_STACK},
+    {"evaluate", EVALUATE, 0, TRESTULAN_STACK},        {"list", LIST, 0, TRESTULAN_STACK},
+    {"read", READ, 0, TRESTULAN_STACK},                {"name", NAME, 1, TRESTULAN_STACK},
+};
+enum { ENTRIES = sizeof promised / sizeof promised[0] };
+
+static char text[TRESTULAN_MAX_TEXT + 1];
 static size_t len;
 static ucontext_t here, there;
-static struct call now;
+static const struct call *now;
 static uint8_t *stack;
-static uint32_t out[16];
+static uint32_t states[16];
+static uint16_t room[TRESTULAN_MAX_ROOM];
 
-/* A chain over so many flags with so many connectives, which no simple rule decides. */
-static void make(int flags, int signs) {
-    static const char sign[] = "=|=&>";
-    int i;
-    len = 0;
-    for (i = 0; i <= signs; i++) {
-        if (i > 0) text[len++] = (uint8_t)sign[i * 7 % 5];
-        if (i * 5 % 3 == 1) text[len++] = '!';
-        text[len++] = (uint8_t)('A' + i % flags);
+/* ---- texts */
+
+static void put(const char *more) {
+    while (*more && len < TRESTULAN_MAX_TEXT) text[len++] = *more++;
+}
+
+static void put_many(const char *more, int times) {
+    while (times-- > 0) put(more);
+}
+
+/* Operands joined by a sign, so many signs. */
+static void chain(const char *sign, int signs) {
+    put("A");
+    while (signs-- > 0) {
+        put(sign);
+        put("A");
     }
 }
 
+/* So many brackets, with a piece in front of each; then what stands innermost. */
+static void nest(const char *piece, int brackets, const char *inmost) {
+    int i;
+    for (i = 0; i < brackets; i++) {
+        put(piece);
+        put("(");
+    }
+    put(inmost);
+    put_many(")", brackets);
+}
+
+static const char *const signs[] = {"=", ">", "|", "&"};
+
+/* Pieces with at most seven signs, so that 32 of them are within the ceiling. */
+static const char *const pieces[] = {
+    "", "!", "A>", "A=", "A|", "A&", "A=A>A|A&", "A>A>A>A>A>A>A>", "A=A=A=A=A=A=A=", "A|A|A|A|A|A|A|", "A&A&A&A&A&A&A&", "A=A>A>A>A>A|A&!!",
+};
+
+/* What stands at the deepest place: a guard, and each refusal of a token. */
+static const char *const inmost[] = {"A", "#1", "A>A", "-", "ABCDEFGHIJKLM", ">", "", "(A)", "#2", "!!!!A"};
+
+enum { PIECES = sizeof pieces / sizeof pieces[0], INMOST = sizeof inmost / sizeof inmost[0] };
+
+static uint32_t seed = 1;
+
+static uint32_t below(uint32_t n) {
+    seed = seed * 1664525u + 1013904223u;
+    return (seed >> 8) % n;
+}
+
+/* Mostly brackets and signs, deep and long. */
+static void random_text(void) {
+    int brackets = 0, left = TRESTULAN_MAX_TRIPLETS;
+    uint32_t deep = 1 + below(7), joins = 1 + below(9);
+    while (len < 3000) {
+        while (brackets < 32 && below(8) < deep) {
+            put("(");
+            brackets++;
+        }
+        put(below(5) ? "A" : "!B");
+        while (brackets > 0 && below(9) == 0) {
+            put(")");
+            brackets--;
+        }
+        if (left-- == 0 || below(300) == 0) break;
+        put(signs[below(10) < joins ? 1 : below(4)]);
+    }
+    if (below(3)) put_many(")", brackets);
+}
+
+/* Text i of the worst kinds, or -1 where there is none. */
+static int make(int i) {
+    int nests = PIECES * INMOST;
+    len = 0;
+    if (i < 4) return chain(signs[i], 255), 0;
+    if ((i -= 4) < 4) return put_many("(", 32), chain(signs[i], 255), put_many(")", 32), 0;
+    if ((i -= 4) < 4) return put_many("(", 32), chain(signs[i], 254), put(signs[i]), 0;
+    if ((i -= 4) < 4) return chain(signs[i], 222), put(signs[i]), nest("", 32, "A"), 0;
+    if ((i -= 4) < 1) return put_many("!", 4095), put("A"), 0;
+    if ((i -= 1) < nests) return nest(pieces[i / INMOST], 32, inmost[i % INMOST]), 0;
+    if ((i -= nests) < PIECES) return nest(pieces[i], 33, "A"), 0;
+    if ((i -= PIECES) < RANDOM) return random_text(), 0;
+    return -1;
+}
+
+/* ---- calls */
+
 static void run(void) {
-    if (now.service == 0)
-        trestulan_check(text, len, now.number);
-    else
-        trestulan_list(text, len, now.number, out, 16);
+    switch (now->service) {
+    case CHECK: trestulan_check(text, len, now->number); break;
+    case EVALUATE: trestulan_evaluate(text, len, now->number); break;
+    case LIST: trestulan_list(text, len, now->number, states, 16); break;
+    case READ: trestulan_read(text, len, room, TRESTULAN_MAX_ROOM); break;
+    case NAME: trestulan_name(text, len, now->number); break;
+    }
 }
 
 static size_t deepest(void) {
     size_t i;
-    for (i = 0; i < now.most && stack[i] == PAINT; i++) {}
-    return now.most - i;
+    for (i = 0; i < now->most && stack[i] == PAINT; i++) {}
+    return now->most - i;
 }
 
-static void leave(int sig) {
-    (void)sig;
-    printf("%s: %zu of %zu bytes, left after its deepest level\n", now.name, deepest(), now.most);
-    fflush(stdout);
-    _exit(0);
-}
-
-static int measure(const struct call *c) {
-    static uint8_t other[65536];
-    stack_t alt = {.ss_sp = other, .ss_size = sizeof other};
-    struct sigaction act;
-    uint8_t *all = mmap(NULL, c->most + PAGE, PROT_READ | PROT_WRITE, MAP_PRIVATE | MAP_ANONYMOUS, -1, 0);
-    if (all == MAP_FAILED || mprotect(all, PAGE, PROT_NONE) != 0) return 1;
-    now = *c;
-    stack = all + PAGE;
+/* The bytes that a call takes of a stack of its own. */
+static size_t measured(const struct call *c) {
+    static uint8_t *all;
+    if (!all) {
+        all = mmap(NULL, TRESTULAN_STACK + PAGE, PROT_READ | PROT_WRITE, MAP_PRIVATE | MAP_ANONYMOUS, -1, 0);
+        if (all == MAP_FAILED || mprotect(all, PAGE, PROT_NONE) != 0) _exit(1);
+    }
+    now = c;
+    stack = all + PAGE + TRESTULAN_STACK - c->most;
     memset(stack, PAINT, c->most);
-    make(c->flags, c->signs);
-    sigaltstack(&alt, NULL);
-    memset(&act, 0, sizeof act);
-    act.sa_handler = leave;
-    act.sa_flags = SA_ONSTACK;
-    sigaction(SIGALRM, &act, NULL);
-    if (c->cut > 0) alarm((unsigned)c->cut);
+    if (c->most < TRESTULAN_STACK) mprotect(all, (size_t)(stack - all) & ~(size_t)(PAGE - 1), PROT_NONE);
     getcontext(&there);
     there.uc_stack.ss_sp = stack;
     there.uc_stack.ss_size = c->most;
     there.uc_link = &here;
     makecontext(&there, run, 0);
     swapcontext(&here, &there);
-    printf("%s: %zu of %zu bytes\n", c->name, deepest(), c->most);
+    return deepest();
+}
+
+/* An entry on every text of the worst kinds: the worst is told. */
+static int on_texts(const struct call *c) {
+    static char worst[sizeof text];
+    size_t most = 0, length = 0;
+    int i;
+    for (i = 0; make(i) == 0; i++) {
+        size_t bytes = measured(c);
+        if (bytes > most) {
+            most = bytes;
+            length = len;
+            memcpy(worst, text, len);
+        }
+    }
+    printf("%s, %d texts: %zu of %zu bytes, most for '%.*s'%s\n", c->name, i, most, c->most, (int)(length < 40 ? length : 40), worst,
+        length > 40 ? " .." : "");
     return 0;
 }
 
-int main(void) {
-    static const struct call calls[] = {
-        {"list, 24 flags and 255 connectives", 128 * 1024, 1, 0, 24, 255, 5},
-        {"list, 8 flags and 255 connectives", 16 * 1024, 1, 0, 8, 255, 5},
-        {"check at depth 0, 24 flags and 255 connectives", 64 * 1024, 0, 0, 24, 255, 5},
-        {"check at depth 1, 24 flags and 255 connectives", 64 * 1024, 0, 1, 24, 255, 5},
-        {"check at depth 2, 24 flags and 255 connectives", 64 * 1024, 0, 2, 24, 255, 5},
-        {"check at depth 0, 24 flags and 23 connectives", 64 * 1024, 0, 0, 24, 23, 5},
-        {"check at depth 1, 24 flags and 23 connectives", 64 * 1024, 0, 1, 24, 23, 5},
-        {"check at depth 2, 24 flags and 23 connectives", 64 * 1024, 0, 2, 24, 23, 5},
-        {"check at depth 24, 24 flags and 255 connectives", 160 * 1024, 0, 24, 24, 255, 5},
-        {"check at depth 23, 24 flags and 255 connectives", 256 * 1024, 0, 23, 24, 255, 5},
-        {"check at depth 23, 24 flags and 23 connectives", 256 * 1024, 0, 23, 24, 23, 5},
-    };
-    size_t i, wrong = 0, many = sizeof calls / sizeof calls[0];
-    for (i = 0; i < many; i++) {
-        int status;
-        pid_t child;
-        fflush(stdout);
-        child = fork();
-        if (child == 0) return measure(&calls[i]);
-        if (child < 0 || waitpid(child, &status, 0) != child || !WIFEXITED(status) || WEXITSTATUS(status) != 0) {
-            printf("%s: FAILED within %zu bytes\n", calls[i].name, calls[i].most);
-            wrong++;
-        }
+/* ---- guards that no simple rule decides */
+
+static void leave(int sig) {
+    (void)sig;
+    printf("%s, undecided by simple rules: %zu of %zu bytes, left after its deepest level\n", now->name, deepest(), now->most);
+    fflush(stdout);
+    _exit(0);
+}
+
+/* A chain over so many flags with so many connectives. */
+static void undecided(int flags, int many) {
+    static const char sign[] = "=|=&>";
+    int i;
+    len = 0;
+    for (i = 0; i <= many; i++) {
+        if (i > 0) text[len++] = sign[i * 7 % 5];
+        if (i * 5 % 3 == 1) text[len++] = '!';
+        text[len++] = (char)('A' + i % flags);
     }
-    printf("%zu stacks, %zu too small\n", many, wrong);
+}
+
+/* The call is left after some seconds: its deepest level comes first. */
+static int on_undecided(const struct call *c) {
+    static uint8_t other[65536];
+    stack_t alt = {.ss_sp = other, .ss_size = sizeof other};
+    struct sigaction act;
+    sigaltstack(&alt, NULL);
+    memset(&act, 0, sizeof act);
+    act.sa_handler = leave;
+    act.sa_flags = SA_ONSTACK;
+    sigaction(SIGALRM, &act, NULL);
+    alarm(CUT);
+    undecided(24, 255);
+    printf("%s, undecided by simple rules: %zu of %zu bytes\n", c->name, measured(c), c->most);
+    return 0;
+}
+
+/* 1 where the call, in a process of its own, ended by a fault. */
+static int faulty(int (*try)(const struct call *), const struct call *c) {
+    int status;
+    pid_t child;
+    fflush(stdout);
+    child = fork();
+    if (child == 0) {
+        status = try(c);
+        fflush(stdout);
+        _exit(status);
+    }
+    if (child > 0 && waitpid(child, &status, 0) == child && WIFEXITED(status) && WEXITSTATUS(status) == 0) return 0;
+    printf("%s: FAILED within %zu bytes\n", c->name, c->most);
+    return 1;
+}
+
+int main(void) {
+    static const struct call deep = {"check at depth 23", CHECK, 23, TRESTULAN_STACK};
+    int i, tried = 0, wrong = 0;
+    for (i = 0; i < ENTRIES; i++, tried += 2)
+        wrong += faulty(on_texts, &promised[i]) + faulty(on_undecided, &promised[i]);
+    wrong += faulty(on_undecided, &deep);
+    printf("%d stacks, %d too small\n", tried + 1, wrong);
     return wrong != 0;
 }
