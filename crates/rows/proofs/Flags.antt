@@ -111,9 +111,10 @@ row-kept : (rows after : List ℕ) (width s i j : ℕ) → s < 64 * width → j 
 unfolding inRow
 row-kept rows after width s i j h b kept = ap (λ u. bit u (s % 64)) (kept (j * width + s / 64) (digits-lt b (omega arith)))
 
-pub first-more : (n width i : ℕ) (rows rows′ after : List ℕ) → FirstFlags n width i rows rows′ → FlagMade rows′ ((i + 1) * width) (n - (i + 1)) width after
-    → FirstFlags n width (i + 1) rows after
-first-more n width i rows rows′ after f m =
+pub first-more : (n width i p : ℕ) (rows rows′ after : List ℕ) → FirstFlags n width i rows rows′ → FlagMade rows′ ((i + 1) * width) p width after
+    → p ≡ n - (i + 1) → FirstFlags n width (i + 1) rows after
+first-more n width i p rows rows′ after f made e =
+    let m : FlagMade rows′ ((i + 1) * width) (n - (i + 1)) width after = rw e at made in
     record {
       long = m .long ∙ f .long;
       top = λ s h. row-kept rows′ after width s (i + 1) 0 h (omega arith) (m .kept) ∙ f .top s h;
