@@ -10,7 +10,7 @@ use lib.ListN.{getD}
 use Rattle.notation.specs.Ceilings.{flagCeiling}
 use Rattle.notation.specs.Triplets.{tripletVariable, negation}
 use Rattle.notation.specs.contracts.Shape.{Names, Shape, kindAt, yAt, zAt}
-use Rattle.truth.specs.Value.{bit}
+use Rattle.ground.specs.Bits.{bit}
 use Rattle.truth.specs.contracts.Computed.{literalValue, gate, computed}
 use Rattle.truth.proofs.Literals.{parity, literal-even, literal-odd, literal-negation, literal-agrees}
 use Rattle.truth.proofs.Computing.{named-kept, named-cases, valued, computed-same, triplet-made, flag-kept, true-at-start, flag-at-start}

@@ -8,7 +8,8 @@ use native.Mathlib.Omega.{arith}
 use native.Mathlib.Nat.{eq-or-lt-of-le}
 use lib.ListN.{length, getD, set, length-set}
 use lib.Seq.{getD-set-same, getD-set-other}
-use Rattle.notation.specs.Tokens.{choose, same, implies}
+use Rattle.notation.specs.Tokens.{same, implies}
+use Rattle.ground.specs.Choice.{choose}
 use Rattle.notation.specs.Triplets.{tripletVariable, negation}
 use Rattle.truth.specs.Value.{table}
 use Rattle.truth.specs.contracts.Computed.{literalValue, gate}

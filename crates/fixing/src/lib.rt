@@ -3,7 +3,7 @@ use notation::ceilings::FLAGS;
 ghost use mathlib.Core.Path.{_≡_};
 ghost use Prim.Native.Nat.{suc, _+_, _*_, _^_, _≤_, _<_};
 ghost use lib.ListN.{length};
-ghost use Rattle.notation.specs.Tokens.{choose};
+ghost use Rattle.ground.specs.Choice.{choose};
 ghost use Rattle.notation.specs.Ceilings.{flagCeiling, connectiveCeiling};
 ghost use Rattle.notation.specs.Triplets.{tripletVariable, negation};
 ghost use Rattle.notation.specs.contracts.Shape.{Names, Shape};

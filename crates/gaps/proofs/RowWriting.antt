@@ -10,8 +10,8 @@ use lib.Pow.{pow-mono, pow-pos}
 use lib.Bits.{bitAnd, bitXor}
 use lib.Dec.{eqb, ltb}
 use borrow.Author.Tests.{lt-ltb, le-ltb, ltb-true, ltb-false}
-use Rattle.notation.specs.Tokens.{choose}
-use Rattle.truth.specs.Value.{bit}
+use Rattle.ground.specs.Choice.{choose}
+use Rattle.ground.specs.Bits.{bit}
 use Rattle.truth.specs.contracts.Computed.{literalValue}
 use Rattle.gaps.specs.declared.writing.Found.{Found}
 use Rattle.gaps.specs.declared.writing.Found.the-variants.{Done, More}
@@ -23,7 +23,7 @@ use Rattle.rows.proofs.Gates.{turned-other}
 use Rattle.gaps.proofs.Ascending.{false-none, false-parts}
 use Rattle.gaps.proofs.Since.{since-same, words-few, words-exact}
 use Rattle.gaps.proofs.Words.{marked}
-use Rattle.notation.proofs.Cases.{either}
+use Rattle.ground.proofs.Cases.{either}
 use Rattle.gaps.proofs.Written.{found-done, writes-none, writes-then, writes-stop}
 
 -- a stretch of which the first j numbers are written: whatever is written of the rest is what the whole asks

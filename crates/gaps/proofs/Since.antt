@@ -8,13 +8,13 @@ use lib.ListN.{getD}
 use lib.Pow.{pow-add, pow-mono, shr-lt}
 use lib.Dec.{T, ltb}
 use borrow.Author.Tests.{lt-ltb, le-ltb}
-use Rattle.notation.specs.Tokens.{choose}
-use Rattle.truth.specs.Value.{bit}
+use Rattle.ground.specs.Choice.{choose}
+use Rattle.ground.specs.Bits.{bit}
 use Rattle.gaps.specs.Gaps.{falseFrom}
 use Rattle.gaps.specs.contracts.Rows.{since, wordsOf, LiveWord}
 use Rattle.rows.proofs.Bits.{bit-shifted, bit-ones, every, every-at}
 use Rattle.gaps.proofs.Ascending.{false-same, false-none, false-parts}
-use Rattle.rows.proofs.Flags.{beq-eq}
+use Rattle.ground.proofs.Truths.{beq-eq}
 use Rattle.gaps.proofs.Words.{marked}
 
 pub since-on : (start : ℕ) (v : ℕ → Bool) (s : ℕ) → start ≤ s → since start v s ≡ v s

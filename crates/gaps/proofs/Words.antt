@@ -11,7 +11,7 @@ use Rattle.gaps.specs.declared.writing.Found.{Found}
 use Rattle.gaps.specs.declared.writing.Found.the-variants.{Done, More}
 use Rattle.gaps.specs.contracts.Rows.{Writes}
 use Rattle.gaps.proofs.Written.{writes-none, writes-one, writes-full}
-use Rattle.truth.specs.Value.{bit}
+use Rattle.ground.specs.Bits.{bit}
 use Rattle.gaps.specs.Gaps.{falseFrom}
 use Rattle.rows.proofs.Bits.{bit-shifted, bit-halved, bit-none, Lowest, lowest, lowest-found}
 use Rattle.gaps.proofs.Ascending.{false-one, false-same, false-none, false-parts}

@@ -10,7 +10,7 @@ use lib.ListN.{length, take, drop, getD, set, length-set, length-append, length-
 use lib.Seq.{drop-nil, take-suc-set, drop-set-lt, take-length, take-all, take-append-le, take-at, getD-at, length-take-le, drop-drop, drop-append-add}
 use lib.Dec.{leb}
 use borrow.Author.Tests.{le-leb, lt-leb, leb-true, leb-false}
-use Rattle.notation.proofs.Cases.{either}
+use Rattle.ground.proofs.Cases.{either}
 use Rattle.gaps.specs.declared.writing.Found.{Found}
 use Rattle.gaps.specs.declared.writing.Found.the-variants.{Done, More}
 use Rattle.gaps.specs.Writing.{found, placed}

@@ -4,7 +4,7 @@ ghost use mathlib.Core.Path.{_≡_};
 ghost use mathlib.Core.Bool.{not};
 ghost use Prim.Native.Nat.{suc, _+_, _*_, _-_, _/_, _^_, _≤_, _<_};
 ghost use lib.ListN.{length};
-ghost use Rattle.truth.specs.Value.{bit};
+ghost use Rattle.ground.specs.Bits.{bit};
 ghost use Rattle.truth.specs.contracts.Computed.{literalValue};
 ghost use Rattle.gaps.specs.Gaps.{falseFrom};
 ghost use Rattle.rows.specs.contracts.Rows.{inRow};

@@ -10,7 +10,8 @@ use lib.Dec.{leb, ltb}
 use lib.Pow.{pow-mono}
 use borrow.Author.Tests.{leb-true, ltb-true}
 use Rattle.notation.specs.Ceilings.{textCeiling, flagCeiling, connectiveCeiling}
-use Rattle.notation.specs.Tokens.{tokens, choose}
+use Rattle.notation.specs.Tokens.{tokens}
+use Rattle.ground.specs.Choice.{choose}
 use Rattle.notation.specs.Walk.{Flag, Outcome, refused, accepted, walk, operand}
 use Rattle.notation.specs.Guard.{Guard, connectives}
 use Rattle.notation.specs.Triplets.{literal, literalCeiling, triplets}
@@ -20,25 +21,25 @@ use Rattle.reading.specs.Service.{guardWith, refusedWith, readAnswer, unnamed, 
 use Rattle.reading.specs.contracts.Parsing.{lastRefusal}
 use Rattle.reading.specs.declared.parse.Parsed.{Parsed}
 use Rattle.reading.specs.declared.name.Named.{Named}
-use Rattle.notation.proofs.Cases.{either}
+use Rattle.ground.proofs.Cases.{either}
 use Rattle.notation.proofs.Accepted.{reading-accepted, reading-shape}
 use Rattle.truth.specs.Value.{value}
-use Rattle.truth.specs.Evaluated.{evaluated}
-use Rattle.truth.specs.declared.evaluate.Evaluation.{Evaluation}
-use Rattle.truth.specs.declared.evaluate.Evaluation.the-variants as evaluation
+use Rattle.evaluate.specs.Evaluated.{evaluated}
+use Rattle.evaluate.specs.declared.Evaluation.{Evaluation}
+use Rattle.evaluate.specs.declared.Evaluation.the-variants as evaluation
 use Rattle.saturation.specs.Saturation.{Flags}
 use Rattle.saturation.proofs.Confirmed.{trial-below}
 use Rattle.gaps.specs.Gaps.{falseFrom, gapsFrom}
 use Rattle.gaps.specs.Writing as writing
-use Rattle.listing.specs.Listed.{listed}
+use Rattle.list.specs.Listed.{listed}
 use Rattle.gaps.specs.declared.writing.Found.{Found}
 use Rattle.gaps.specs.declared.writing.Found.the-variants as found
-use Rattle.listing.specs.declared.Listing.{Listing}
-use Rattle.listing.specs.declared.Listing.the-variants as listing
+use Rattle.list.specs.declared.Listing.{Listing}
+use Rattle.list.specs.declared.Listing.the-variants as listing
 use Rattle.gaps.proofs.Ascending.{false-not, false-one}
-use Rattle.verdict.specs.Check.{depthCeiling, asked, ReadingSays, CheckSays}
-use Rattle.verdict.specs.declared.verdicts.Verdict.{Verdict}
-use Rattle.verdict.specs.declared.verdicts.Verdict.the-variants.{Covered, Gap, Undecided, Refused}
+use Rattle.guard_check.specs.Check.{depthCeiling, asked, ReadingSays, CheckSays}
+use Rattle.guard_check.specs.declared.verdicts.Verdict.{Verdict}
+use Rattle.guard_check.specs.declared.verdicts.Verdict.the-variants.{Covered, Gap, Undecided, Refused}
 use Rattle.importer.specs.contracts.Fits.{RefusalFits, VerdictFits, EvaluationFits, FoundFits, ListingFits, ParsedFits, NamedFits}
 use Rattle.reading.proofs.Places.{choose-has, FlagsFit, OutcomeFits, text-fits}
 

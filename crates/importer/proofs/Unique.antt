@@ -2,7 +2,7 @@
 use Prim.Native.Nat.{ℕ}
 use mathlib.Core.Path.{_≡_, sym, ap, _∙_}
 use mathlib.Core.List.{List}
-use Rattle.verdict.proofs.Unique as verdict
+use Rattle.guard_check.proofs.Unique as verdict
 use Rattle.importer.specs.Packed.{packedVerdict}
 use Rattle.importer.specs.Entries.{CheckAnswers, evaluateNumber, ListAnswers, ReadAnswers, nameNumber}
 

@@ -5,10 +5,10 @@ use mathlib.Core.List.{List}
 use lib.ListN.{length}
 use Rattle.notation.specs.Reading.{reading}
 use Rattle.reading.specs.Service.{readAnswer, roomAfter, nameAnswer}
-use Rattle.truth.specs.Evaluated.{evaluated}
-use Rattle.listing.specs.Listed.{listed, filled}
-use Rattle.verdict.specs.Check.{CheckSays}
-use Rattle.verdict.specs.declared.verdicts.Verdict.{Verdict}
+use Rattle.evaluate.specs.Evaluated.{evaluated}
+use Rattle.list.specs.Listed.{listed, filled}
+use Rattle.guard_check.specs.Check.{CheckSays}
+use Rattle.guard_check.specs.declared.verdicts.Verdict.{Verdict}
 use Rattle.importer.specs.Packed.{packedVerdict, packedEvaluation, packedListing, packedParsed, packedNamed}
 
 -- check answers the number of the verdict on the text at the depth

@@ -1,19 +1,19 @@
 -- How an answer is one number: kind x 2^32 + payload.
 use Prim.Native.Nat.{ℕ, _+_, _*_, _^_}
-use Rattle.notation.specs.Tokens.{choose}
+use Rattle.ground.specs.Choice.{choose}
 use Rattle.notation.specs.declared.refusal.Refusal.{Refusal}
 use Rattle.reading.specs.declared.parse.Parsed.{Parsed}
 use Rattle.reading.specs.declared.parse.Parsed.the-variants as parsed
 use Rattle.reading.specs.declared.name.Named.{Named}
 use Rattle.reading.specs.declared.name.Named.the-variants as named
-use Rattle.truth.specs.declared.evaluate.Evaluation.{Evaluation}
-use Rattle.truth.specs.declared.evaluate.Evaluation.the-variants as evaluation
+use Rattle.evaluate.specs.declared.Evaluation.{Evaluation}
+use Rattle.evaluate.specs.declared.Evaluation.the-variants as evaluation
 use Rattle.gaps.specs.declared.writing.Found.{Found}
 use Rattle.gaps.specs.declared.writing.Found.the-variants as found
-use Rattle.listing.specs.declared.Listing.{Listing}
-use Rattle.listing.specs.declared.Listing.the-variants as listing
-use Rattle.verdict.specs.declared.verdicts.Verdict.{Verdict}
-use Rattle.verdict.specs.declared.verdicts.Verdict.the-variants as verdict
+use Rattle.list.specs.declared.Listing.{Listing}
+use Rattle.list.specs.declared.Listing.the-variants as listing
+use Rattle.guard_check.specs.declared.verdicts.Verdict.{Verdict}
+use Rattle.guard_check.specs.declared.verdicts.Verdict.the-variants as verdict
 
 -- a kind with its payload
 abbrev pub packed : ℕ → ℕ → ℕ

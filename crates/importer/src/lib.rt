@@ -1,7 +1,9 @@
 // The C side: entries over the bytes of a text, each answering one packed number. include/trestulan.h declares them.
 pub mod packing;
 
-use listing::list;
+use evaluate::evaluate;
+use guard_check::check::check;
+use list::list;
 use packing::pack_evaluation;
 use packing::pack_listing;
 use packing::pack_named;
@@ -9,8 +11,6 @@ use packing::pack_parsed;
 use packing::pack_verdict;
 use reading::name::name;
 use reading::read::read;
-use truth::evaluate::evaluate;
-use verdict::check::check;
 ghost use mathlib.Core.Path.{_≡_};
 ghost use Rattle.importer.specs.Entries.{CheckAnswers, evaluateNumber, ListAnswers, ReadAnswers, nameNumber};
 

@@ -9,10 +9,10 @@ use Rattle.notation.specs.contracts.Cut.{part}
 use Rattle.notation.specs.Reading.{reading}
 use Rattle.notation.specs.Ceilings.{flagCeiling}
 use Rattle.notation.specs.declared.refusal.Refusal.{Refusal}
-use Rattle.verdict.specs.Check.{CheckSays}
-use Rattle.verdict.specs.Desk.{bytes}
-use Rattle.verdict.specs.declared.verdicts.Verdict.{Verdict}
-use Rattle.verdict.specs.declared.verdicts.Verdict.the-variants.{Covered, Gap, Undecided, Refused}
+use Rattle.guard_check.specs.Check.{CheckSays}
+use Rattle.ground.specs.Bytes.{bytes}
+use Rattle.guard_check.specs.declared.verdicts.Verdict.{Verdict}
+use Rattle.guard_check.specs.declared.verdicts.Verdict.the-variants.{Covered, Gap, Undecided, Refused}
 use Rattle.lines.specs.Lines.{lineFeed}
 use Rattle.lines.specs.Question.{question, guardIn, QuestionSays}
 use Rattle.lines.specs.Printed.{decimal, valued, flagsOf, answered, printed}

@@ -8,8 +8,9 @@ use mathlib.Core.Logic.{⊎-elim}
 use lib.ListN.{length, List·getD-eq-default}
 use lib.Dec.{eqb, leb}
 use borrow.Author.Tests.{eq-eqb, ne-eqb, le-leb, lt-leb, eqb-true}
-use Rattle.notation.specs.Tokens.{choose, among}
-use Rattle.notation.proofs.Cases.{lt-or-ge}
+use Rattle.notation.specs.Tokens.{among}
+use Rattle.ground.specs.Choice.{choose}
+use Rattle.ground.proofs.Cases.{lt-or-ge}
 use Rattle.lines.specs.Question.{byteAt, isDigit, digitValue, question}
 use Rattle.lines.specs.declared.question.Question.{Question}
 use Rattle.lines.specs.declared.question.Question.the-variants.{Malformed, Asks}

@@ -6,7 +6,7 @@ use mathlib.Core.List.{[], _∷_, _++_}
 use mathlib.Core.Logic.{⊎-elim}
 use lib.ListN.{length, length-append}
 use borrow.Author.Tests.{lt-ltb, le-ltb}
-use Rattle.notation.proofs.Cases.{lt-or-ge}
+use Rattle.ground.proofs.Cases.{lt-or-ge}
 use Rattle.lines.specs.Printed.{digit, decimalAt, decimal}
 use Rattle.lines.specs.contracts.Put.{numberRoom}
 

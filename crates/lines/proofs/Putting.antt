@@ -7,7 +7,7 @@ use mathlib.Core.List.{List, [], _∷_, _++_, append-assoc, append-nil}
 use mathlib.Core.Logic.{⊎-elim}
 use lib.ListN.{length, take, drop, set, getD, length-append, length-set, take-append-drop, drop-of-length-le}
 use lib.Seq.{take-suc, take-suc-set, take-all, take-at, drop-at, drop-drop, drop-set-lt, length-take-le}
-use Rattle.notation.proofs.Cases.{lt-or-ge}
+use Rattle.ground.proofs.Cases.{lt-or-ge}
 use Rattle.lines.specs.contracts.Put.{Puts}
 
 -- ---- cut at r: up to there the bytes after what stood before them, from there on what stood there

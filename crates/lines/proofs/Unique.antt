@@ -6,9 +6,9 @@ use mathlib.Core.Logic.{⊎-elim}
 use mathlib.Core.List.{List, [], _∷_, _++_}
 use lib.ListN.{length, drop}
 use lib.Dec.{leb}
-use Rattle.notation.proofs.Cases.{either}
-use Rattle.verdict.specs.declared.verdicts.Verdict.{Verdict}
-use Rattle.verdict.proofs.Unique.{check-unique}
+use Rattle.ground.proofs.Cases.{either}
+use Rattle.guard_check.specs.declared.verdicts.Verdict.{Verdict}
+use Rattle.guard_check.proofs.Unique.{check-unique}
 use Rattle.lines.specs.Question.{question, guardOf, QuestionSays}
 use Rattle.lines.specs.Printed.{printed}
 use Rattle.lines.specs.Answer.{AnswerLine, Answers}

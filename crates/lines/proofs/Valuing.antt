@@ -6,12 +6,12 @@ use mathlib.Core.Bool.{Bool, true, false}
 use mathlib.Core.List.{List, [], _∷_, _++_, append-assoc, append-nil}
 use lib.ListN.{length, take, drop, length-append, drop-of-length-le}
 use lib.Seq.{length-take-le, drop-drop, drop-at}
-use Rattle.notation.specs.Tokens.{choose}
+use Rattle.ground.specs.Choice.{choose}
 use Rattle.notation.specs.Walk.{Flag}
 use Rattle.notation.specs.contracts.Codes.{startOf, endOf, codeIn, flagAt, flagsIn}
 use Rattle.notation.proofs.Coding.{flags-length, flags-split}
-use Rattle.truth.specs.Value.{bit}
-use Rattle.verdict.specs.Desk.{bytes}
+use Rattle.ground.specs.Bits.{bit}
+use Rattle.ground.specs.Bytes.{bytes}
 use Rattle.lines.specs.Printed.{flagValue, valued}
 use Rattle.lines.specs.contracts.Put.{Puts, PutsIn, CodeTable, valueRoom}
 use Rattle.lines.proofs.Putting.{puts-of, puts-cut, kept-later, puts-then}

@@ -4,8 +4,8 @@ use mathlib.Core.Path.{_≡_}
 use mathlib.Core.List.{List, [], _∷_, _++_}
 use lib.ListN.{length}
 use lib.Dec.{leb}
-use Rattle.notation.specs.Tokens.{choose}
-use Rattle.verdict.specs.Desk.{bytes}
+use Rattle.ground.specs.Choice.{choose}
+use Rattle.ground.specs.Bytes.{bytes}
 use Rattle.lines.specs.Lines.{lineFeed, lines}
 use Rattle.lines.specs.Answer.{AnswerLine}
 

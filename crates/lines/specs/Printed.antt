@@ -4,13 +4,13 @@ use mathlib.Core.Bool.{Bool}
 use mathlib.Core.List.{List, [], _∷_, _++_}
 use lib.ListN.{length}
 use lib.Dec.{ltb}
-use Rattle.notation.specs.Tokens.{choose}
+use Rattle.ground.specs.Choice.{choose}
 use Rattle.notation.specs.Walk.{Flag}
 use Rattle.notation.specs.Reading.{Reading, refusal, guard, reading}
-use Rattle.truth.specs.Value.{bit}
-use Rattle.verdict.specs.Desk.{bytes}
-use Rattle.verdict.specs.declared.verdicts.Verdict.{Verdict}
-use Rattle.verdict.specs.declared.verdicts.Verdict.the-variants.{Covered, Gap, Undecided, Refused}
+use Rattle.ground.specs.Bits.{bit}
+use Rattle.ground.specs.Bytes.{bytes}
+use Rattle.guard_check.specs.declared.verdicts.Verdict.{Verdict}
+use Rattle.guard_check.specs.declared.verdicts.Verdict.the-variants.{Covered, Gap, Undecided, Refused}
 use Rattle.lines.specs.Lines.{lineFeed}
 
 -- the byte of a digit

@@ -5,10 +5,11 @@ use mathlib.Core.Bool.{Bool}
 use mathlib.Core.List.{List, []}
 use lib.ListN.{getD, drop}
 use lib.Dec.{eqb}
-use Rattle.notation.specs.Tokens.{choose, among}
-use Rattle.verdict.specs.Check.{CheckSays}
-use Rattle.verdict.specs.declared.verdicts.Verdict.{Verdict}
-use Rattle.verdict.specs.declared.verdicts.Verdict.the-variants.{Refused}
+use Rattle.notation.specs.Tokens.{among}
+use Rattle.ground.specs.Choice.{choose}
+use Rattle.guard_check.specs.Check.{CheckSays}
+use Rattle.guard_check.specs.declared.verdicts.Verdict.{Verdict}
+use Rattle.guard_check.specs.declared.verdicts.Verdict.the-variants.{Refused}
 use Rattle.lines.specs.declared.question.Question.{Question}
 use Rattle.lines.specs.declared.question.Question.the-variants.{Malformed, Asks}
 

@@ -9,11 +9,11 @@ ghost use mathlib.Core.Path.{_≡_};
 ghost use Prim.Native.Nat.{_+_, _*_, _≤_, _<_};
 ghost use lib.ListN.{length};
 ghost use Rattle.notation.specs.Ceilings.{flagCeiling};
-ghost use Rattle.notation.specs.Tokens.{choose};
+ghost use Rattle.ground.specs.Choice.{choose};
 ghost use Rattle.notation.specs.Reading.{reading};
 ghost use Rattle.notation.specs.contracts.Codes.{flagsIn, codeIn};
-ghost use Rattle.truth.specs.Value.{bit};
-ghost use Rattle.verdict.specs.Desk.{bytes};
+ghost use Rattle.ground.specs.Bits.{bit};
+ghost use Rattle.ground.specs.Bytes.{bytes};
 ghost use Rattle.lines.specs.contracts.Put.{Puts, PutsIn, CodeTable, valueRoom};
 ghost use Rattle.lines.specs.Printed.{flagValue, valued, flagsOf};
 

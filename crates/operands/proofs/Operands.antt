@@ -8,7 +8,8 @@ use lib.ListN.{length, take, length-append, length-set}
 use lib.Dec.{leb}
 use borrow.Author.Tests.{le-leb, lt-leb}
 use Rattle.notation.specs.Ceilings.{flagCeiling}
-use Rattle.notation.specs.Tokens.{Tokens, Sign, same, implies, or, and, code, hash, at as token-at, choose}
+use Rattle.notation.specs.Tokens.{Tokens, Sign, same, implies, or, and, code, hash, at as token-at}
+use Rattle.ground.specs.Choice.{choose}
 use Rattle.notation.specs.Walk.{Flag, refused, walk, operand, after, within, known, seen}
 use Rattle.notation.specs.Guard.{Guard, flag, truth, connectives}
 use Rattle.notation.specs.Grammar.{Level, found, number, past, closed, operandOf}

@@ -7,7 +7,8 @@ use mathlib.Core.List.{List, []}
 use lib.ListN.{length, take}
 use borrow.Author.Tests.{le-leb, lt-leb}
 use Rattle.notation.specs.Ceilings.{textCeiling, flagCeiling, connectiveCeiling}
-use Rattle.notation.specs.Tokens.{Tokens, tokens, choose}
+use Rattle.notation.specs.Tokens.{Tokens, tokens}
+use Rattle.ground.specs.Choice.{choose}
 use Rattle.notation.specs.Walk.{Flag, refused, accepted, walk, operand, after}
 use Rattle.notation.specs.Guard.{Guard, connectives}
 use Rattle.notation.specs.Grammar.{sameOf, treeOf, tree}

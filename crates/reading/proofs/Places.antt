@@ -8,7 +8,8 @@ use lib.ListN.{length}
 use lib.Dec.{leb, eqb}
 use borrow.Author.Tests.{leb-true}
 use Rattle.notation.specs.Ceilings.{textCeiling, codeCeiling, flagCeiling, bracketCeiling, connectiveCeiling}
-use Rattle.notation.specs.Tokens.{Code, Token, Tokens, stray, long, code, hash, bang, sign, opening, closing, end, at, choose, same, implies, or, and, codeByte, codeRun, coded, hashed, marked, tokenOf, further, tokensFrom, tokens}
+use Rattle.notation.specs.Tokens.{Code, Token, Tokens, stray, long, code, hash, bang, sign, opening, closing, end, at, same, implies, or, and, codeByte, codeRun, coded, hashed, marked, tokenOf, further, tokensFrom, tokens}
+use Rattle.ground.specs.Choice.{choose}
 use Rattle.notation.specs.Walk.{Flag, known, seen, Wanted, operand, after, Outcome, refused, accepted, within, walk}
 use Rattle.reading.specs.contracts.Parsing.{lastRefusal}
 

@@ -10,7 +10,7 @@ use lib.Seq.{take-suc, drop-cons, set-at, append-snoc, length-take-le}
 use lib.Dec.{leb}
 use borrow.Author.Tests.{le-leb, lt-leb, lt-ltb, leb-true, leb-false}
 use Rattle.notation.specs.Ceilings.{connectiveCeiling}
-use Rattle.notation.specs.Tokens.{choose}
+use Rattle.ground.specs.Choice.{choose}
 use Rattle.notation.specs.Walk.{Flag}
 use Rattle.notation.specs.Guard.{Guard, connectives}
 use Rattle.notation.specs.Triplets.{literal}

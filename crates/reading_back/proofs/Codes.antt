@@ -12,7 +12,7 @@ use Rattle.notation.specs.Tokens.{Code}
 use Rattle.notation.specs.Walk.{Flag, sameCode, known, seen}
 use Rattle.notation.specs.Guard.{Guard, flag, truth, negated, joined}
 use Rattle.notation.specs.Grammar.{number}
-use Rattle.notation.proofs.Cases.{either, split-eq}
+use Rattle.ground.proofs.Cases.{either, split-eq}
 use Rattle.reading_back.specs.Written.{among, met, placeIn, Placed, EachPlaced}
 
 -- two codes that are the same have the same bytes

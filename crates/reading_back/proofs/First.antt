@@ -7,10 +7,11 @@ use mathlib.Core.Bool.{Bool, true, false}
 use mathlib.Core.List.{List, [], map, map-append}
 use lib.ListN.{length}
 use lib.Dec.{ltb}
-use Rattle.notation.specs.Tokens.{Code, choose}
+use Rattle.notation.specs.Tokens.{Code}
+use Rattle.ground.specs.Choice.{choose}
 use Rattle.notation.specs.Walk.{Flag, seen}
 use Rattle.notation.specs.Guard.{Guard, flag, truth, negated, joined}
-use Rattle.notation.proofs.Cases.{either, never}
+use Rattle.ground.proofs.Cases.{either, never}
 use Rattle.reading_back.specs.Written.{levelOf, leftOf, rightOf, written, Stands, among, met, order, before, flagsOf}
 use Rattle.reading_back.proofs.Codes.{Matches, nothing, known-is, matches-seen}
 use Rattle.reading_back.proofs.Order.{stays-met, stands-met, order-stands, stands-order}

@@ -11,7 +11,7 @@ use borrow.Author.Tests.{eq-eqb}
 use Rattle.notation.specs.Tokens.{Code}
 use Rattle.notation.specs.Guard.{Guard, flag, truth, negated, joined}
 use Rattle.notation.specs.Reading.{reading, guard}
-use Rattle.notation.proofs.Cases.{either}
+use Rattle.ground.proofs.Cases.{either}
 use Rattle.reading_back.specs.Written.{Stands, among, order, placeIn, renamed, renumbered, upTo, flagsOf, written, WithinCeilings}
 use Rattle.reading_back.proofs.Order.{among-last, stands-order}
 use Rattle.reading_back.proofs.ReadBack.{read-back}

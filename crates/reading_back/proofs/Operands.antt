@@ -8,7 +8,8 @@ use lib.ListN.{length, take, drop, length-append}
 use lib.Seq.{take-at}
 use borrow.Author.Tests.{le-leb}
 use Rattle.notation.specs.Ceilings.{bracketCeiling, flagCeiling}
-use Rattle.notation.specs.Tokens.{Code, Tokens, code, bang, opening, closing, at, choose, tokensFrom}
+use Rattle.notation.specs.Tokens.{Code, Tokens, code, bang, opening, closing, at, tokensFrom}
+use Rattle.ground.specs.Choice.{choose}
 use Rattle.notation.specs.Walk.{Flag, seen, walk, operand, after, within}
 use Rattle.notation.specs.Guard.{Guard, flag, truth, negated, connectives}
 use Rattle.notation.specs.Grammar.{Level, Parsed, found, follow, number, closed, operandOf, inBrackets, sameOf}

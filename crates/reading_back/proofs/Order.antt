@@ -7,7 +7,7 @@ use mathlib.Core.List.{List, [], _∷_, _++_}
 use lib.Dec.{eqb}
 use borrow.Author.Tests.{eq-eqb, eqb-true}
 use Rattle.notation.specs.Guard.{Guard, flag, truth, negated, joined}
-use Rattle.notation.proofs.Cases.{either}
+use Rattle.ground.proofs.Cases.{either}
 use Rattle.reading_back.specs.Written.{Stands, among, met, order}
 
 -- a number that is added at the end is there, and those before it stay

@@ -17,7 +17,7 @@ use Rattle.notation.specs.Reading.{Reading, reading, guard}
 use Rattle.reading.specs.Service.{ReadSays, readAnswer, roomAfter, guardWith, nameIn, nameAnswer, partOf}
 use Rattle.reading.specs.declared.parse.Parsed.{Parsed}
 use Rattle.reading.specs.declared.name.Named.the-variants as named
-use Rattle.notation.proofs.Cases.{either}
+use Rattle.ground.proofs.Cases.{either}
 use Rattle.reading_back.specs.Written.{order, placeIn, renumbered, before, flagsOf, written, Placed, EachPlaced, WithinCeilings}
 use Rattle.reading_back.proofs.Levels.{renamed-connectives}
 use Rattle.reading_back.proofs.ReadBack.{read-back, codes-placed}

@@ -9,7 +9,8 @@ use mathlib.Core.List.{List, _∷_, _++_}
 use lib.ListN.{length}
 use lib.Dec.{ltb}
 use borrow.Author.Tests.{ltb-false, le-ltb}
-use Rattle.notation.specs.Tokens.{Code, Sign, same, implies, or, and, choose}
+use Rattle.notation.specs.Tokens.{Code, Sign, same, implies, or, and}
+use Rattle.ground.specs.Choice.{choose}
 use Rattle.notation.specs.Walk.{seen}
 use Rattle.notation.specs.Guard.{Guard, flag, truth, negated, joined}
 use Rattle.notation.specs.Grammar.{Level, toTheRight, andOf, orOf, impliesOf, sameOf}

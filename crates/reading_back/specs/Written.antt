@@ -7,7 +7,8 @@ use mathlib.Core.Logic.{_⊎_}
 use lib.ListN.{length, take, drop}
 use lib.Dec.{eqb, ltb}
 use Rattle.notation.specs.Ceilings.{textCeiling, codeCeiling, bracketCeiling, flagCeiling, connectiveCeiling}
-use Rattle.notation.specs.Tokens.{Code, Sign, same, implies, or, and, choose, codeByte}
+use Rattle.notation.specs.Tokens.{Code, Sign, same, implies, or, and, codeByte}
+use Rattle.ground.specs.Choice.{choose}
 use Rattle.notation.specs.Walk.{Flag}
 use Rattle.notation.specs.Guard.{Guard, flag, truth, negated, joined, connectives}
 

@@ -16,7 +16,7 @@ use Rattle.relation.specs.Relation.{Rel, IsRelation}
 use Rattle.relation.specs.contracts.Classes.{variableCeiling, entry, lead, relation, contradictory, Canonical, Classes}
 use Rattle.relation.specs.contracts.Keeping.{Lower, tied}
 use Rattle.relation.proofs.RelationLaws.{bool-eq}
-use Rattle.notation.proofs.Cases.{either, split-eq, lt-or-ge}
+use Rattle.ground.proofs.Cases.{either, split-eq, lt-or-ge}
 use Rattle.notation.proofs.Shaped.{negation-half}
 use Rattle.relation.proofs.LiteralLaws.{sign-cases, signed-even, signed-odd, signed-half, signed-sign, literal-eq, negation-sign, negation-differs}
 

@@ -13,7 +13,7 @@ use Rattle.relation.specs.Least.{Least, Holds}
 use Rattle.notation.specs.contracts.Writing.{signed}
 use Rattle.relation.specs.contracts.Classes.{variableCeiling, entry, lead, relation, contradictory, moved, kept, Canonical, Classes}
 use Rattle.relation.specs.contracts.Keeping.{Leaders, Joined}
-use Rattle.notation.proofs.Cases.{split-eq}
+use Rattle.ground.proofs.Cases.{split-eq}
 use Rattle.relation.proofs.LiteralLaws.{sign-add, signed-half, signed-sign, literal-eq, same-variable}
 use Rattle.relation.proofs.RelationLaws.{signed-both, least-none, least-across, least-turned}
 use Rattle.relation.proofs.ClassLaws.{lead-half, lead-sign, lead-is, relation-all, same-leads, leads-same, is-relation, true-leads, contradictory-at, leader-stands, lead-twice, lead-lower, leads-to, stored-other}

@@ -7,10 +7,10 @@ use native.Mathlib.Omega.{arith}
 use native.Mathlib.Numerals.{add-one}
 use lib.Dec.{eqb}
 use borrow.Author.Tests.{eq-eqb, ne-eqb}
-use Rattle.notation.specs.Tokens.{choose}
+use Rattle.ground.specs.Choice.{choose}
 use Rattle.relation.specs.Relation.{Within}
 use Rattle.relation.specs.contracts.Classes.{lead, relation, contradictory, Canonical, own, rank}
-use Rattle.notation.proofs.Cases.{either, split-eq, lt-or-ge}
+use Rattle.ground.proofs.Cases.{either, split-eq, lt-or-ge}
 use Rattle.relation.proofs.RelationLaws.{across}
 use Rattle.relation.proofs.ClassLaws.{lead-half, lead-is, lead-variable, relation-all, same-leads, leads-same, is-relation, leader-stands, leads-to}
 

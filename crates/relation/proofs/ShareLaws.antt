@@ -8,12 +8,12 @@ use native.Mathlib.Omega.{arith}
 use lib.ListN.{length, getD}
 use lib.Dec.{eqb}
 use borrow.Author.Tests.{eqb-true, eq-eqb}
-use Rattle.notation.specs.Tokens.{choose}
+use Rattle.ground.specs.Choice.{choose}
 use Rattle.relation.specs.Relation.{Rel}
 use Rattle.notation.specs.contracts.Writing.{signed}
 use Rattle.relation.specs.contracts.Classes.{variableCeiling, entry, lead, relation, contradictory, Canonical, Classes}
 use Rattle.relation.specs.contracts.Keeping.{Lower, SharedLeader, Shared, common}
-use Rattle.notation.proofs.Cases.{either, split-eq, lt-or-ge, never}
+use Rattle.ground.proofs.Cases.{either, split-eq, lt-or-ge, never}
 use Rattle.relation.proofs.LiteralLaws.{sign-add, signed-half, signed-sign, literal-eq}
 use Rattle.relation.proofs.RelationLaws.{bool-eq}
 use Rattle.relation.proofs.ClassLaws.{entry-at, lead-half, lead-sign, lead-variable, lead-signed, same-leads, leads-same, contradictory-at}

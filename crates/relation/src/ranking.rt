@@ -2,7 +2,7 @@
 use notation::ceilings::VARIABLES;
 ghost use mathlib.Core.Path.{_≡_};
 ghost use lib.Dec.{eqb};
-ghost use Rattle.notation.specs.Tokens.{choose};
+ghost use Rattle.ground.specs.Choice.{choose};
 ghost use Rattle.relation.specs.contracts.Classes.{Classes, entry, rank};
 
 // 1 where a variable with the literal own leads to that, else 0.

@@ -5,7 +5,7 @@ ghost use mathlib.Core.Path.{_≡_};
 ghost use Prim.Native.Nat.{_+_, _*_, _/_, _<_, _^_, max};
 ghost use mathlib.Core.Bool.{false};
 ghost use lib.Dec.{eqb};
-ghost use Rattle.notation.specs.Tokens.{choose};
+ghost use Rattle.ground.specs.Choice.{choose};
 ghost use Rattle.notation.specs.contracts.Writing.{signed};
 ghost use Rattle.relation.specs.contracts.Classes.{variableCeiling, Classes, entry};
 ghost use Rattle.relation.specs.contracts.Keeping.{Lower, Shared, SharedLeader};

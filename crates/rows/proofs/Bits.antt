@@ -9,7 +9,8 @@ use lib.Dec.{T, eqb}
 use lib.Pow.{shr-shr}
 use lib.Bits.{bitAnd, bitOr, bitXor, differ, and-shr, and-step, or-shr, xor-shr, or-step, xor-step}
 use lib.Count.{trailingZeros}
-use Rattle.truth.specs.Value.{bit, table}
+use Rattle.truth.specs.Value.{table}
+use Rattle.ground.specs.Bits.{bit}
 use Rattle.notation.specs.Tokens.{same}
 
 -- bit i of a shifted word is bit a + i of the word

@@ -11,20 +11,15 @@ use lib.Seq.{getD-set-same, getD-set-other}
 use lib.Arith.{digits-lt}
 use lib.Dec.{T}
 use borrow.Author.Tests.{eq-eqb}
-use Rattle.truth.specs.Value.{bit}
+use Rattle.ground.specs.Bits.{bit}
 use Rattle.truth.proofs.Literals.{parity}
 use Rattle.rows.specs.contracts.Rows.{inRow, WordOf, FlagMade, RowMade}
 use Rattle.rows.proofs.Bits.{bit-shifted, bit-none, bit-ones, every, every-at}
+use Rattle.ground.proofs.Truths.{beq-eq}
 
 -- bit p of the numbers 0 to 63, for each p below 6
 abbrev pub low : List ℕ
 low = 0xAAAAAAAAAAAAAAAA ∷ 0xCCCCCCCCCCCCCCCC ∷ 0xF0F0F0F0F0F0F0F0 ∷ 0xFF00FF00FF00FF00 ∷ 0xFFFF0000FFFF0000 ∷ 0xFFFFFFFF00000000 ∷ []
-
-pub beq-eq : (a b : Bool) → Bool·beq a b ≡ true → a ≡ b
-beq-eq true true e = refl
-beq-eq true false e = sym e
-beq-eq false true e = e
-beq-eq false false e = refl
 
 low-right : T (every (λ p. every (λ b. Bool·beq (bit (getD low p 0) b) (bit b p)) 64) 6)
 unfolding every bit
@@ -116,9 +111,10 @@ row-kept : (rows after : List ℕ) (width s i j : ℕ) → s < 64 * width → j 
 unfolding inRow
 row-kept rows after width s i j h b kept = ap (λ u. bit u (s % 64)) (kept (j * width + s / 64) (digits-lt b (omega arith)))
 
-pub first-more : (n width i : ℕ) (rows rows′ after : List ℕ) → FirstFlags n width i rows rows′ → FlagMade rows′ ((i + 1) * width) (n - (i + 1)) width after
-    → FirstFlags n width (i + 1) rows after
-first-more n width i rows rows′ after f m =
+pub first-more : (n width i p : ℕ) (rows rows′ after : List ℕ) → FirstFlags n width i rows rows′ → FlagMade rows′ ((i + 1) * width) p width after
+    → p ≡ n - (i + 1) → FirstFlags n width (i + 1) rows after
+first-more n width i p rows rows′ after f made e =
+    let m : FlagMade rows′ ((i + 1) * width) (n - (i + 1)) width after = rw e at made in
     record {
       long = m .long ∙ f .long;
       top = λ s h. row-kept rows′ after width s (i + 1) 0 h (omega arith) (m .kept) ∙ f .top s h;

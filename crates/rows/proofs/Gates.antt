@@ -11,10 +11,12 @@ use lib.Arith.{digits-lt}
 use lib.Bits.{bitOr, bitXor}
 use lib.Dec.{eqb}
 use borrow.Author.Tests.{eq-eqb, ne-eqb}
-use Rattle.notation.specs.Tokens.{choose, same, implies}
+use Rattle.notation.specs.Tokens.{same, implies}
+use Rattle.ground.specs.Choice.{choose}
 use Rattle.notation.specs.Triplets.{tripletVariable}
 use Rattle.notation.specs.contracts.Shape.{kindAt, yAt, zAt}
-use Rattle.truth.specs.Value.{bit, table}
+use Rattle.truth.specs.Value.{table}
+use Rattle.ground.specs.Bits.{bit}
 use Rattle.truth.specs.contracts.Computed.{literalValue, gate}
 use Rattle.truth.proofs.Literals.{parity}
 use Rattle.rows.specs.contracts.Rows.{inRow, turned, RowMade, TripletMade}

@@ -8,7 +8,7 @@ use mathlib.Core.Logic.{⊎-elim}
 use native.Mathlib.Omega.{arith}
 use native.Mathlib.Nat.{div-eq-of-lt, div-lt-iff-lt-mul}
 use lib.Pow.{pow-pos, shr-mono}
-use Rattle.notation.proofs.Cases.{lt-or-ge}
+use Rattle.ground.proofs.Cases.{lt-or-ge}
 use Rattle.notation.specs.Guard.{Guard}
 use Rattle.notation.specs.Triplets.{Triplet, negation, literal, triplets}
 use Rattle.truth.specs.Value.{value}

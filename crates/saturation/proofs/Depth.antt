@@ -11,7 +11,7 @@ use Rattle.steps.specs.Rest.{NoStepEnlarges}
 use Rattle.saturation.specs.Saturation.{taking, Stable, Saturated, SaturationOf}
 use Rattle.saturation.specs.contracts.Saturating.{Ties, HoldsSplit}
 use Rattle.relation.specs.Relation.{Rel, IsRelation, Forced}
-use Rattle.notation.proofs.Cases.{split-eq}
+use Rattle.ground.proofs.Cases.{split-eq}
 use Rattle.saturation.proofs.Taking.{above-taking, taking-above, taking-holds}
 
 -- each variable of a list is one that is split

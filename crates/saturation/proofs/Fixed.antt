@@ -8,7 +8,8 @@ use Rattle.notation.specs.Tokens.{Sign, same, implies, or, and}
 use Rattle.notation.specs.Guard.{Guard, flag, truth, negated, joined, connectives}
 use Rattle.notation.specs.Triplets.{Triplet, tripletVariable, negation, tripletOf, literalOf, literal, triplets, Each}
 use Rattle.relation.specs.Relation.{Rel, IsRelation}
-use Rattle.truth.specs.Value.{bit, table, value}
+use Rattle.truth.specs.Value.{table, value}
+use Rattle.ground.specs.Bits.{bit}
 use Rattle.notation.specs.contracts.Shape.{FlagsWithin}
 use Rattle.notation.proofs.Shaped.{count-triplets}
 use Rattle.steps.specs.Step.{Side, never, always, own-x, own-y, own-z, Values, literalAt, truthAt, connected}

@@ -9,8 +9,3 @@ pub mod Valuations
 pub mod Verdicts
 pub mod Enough
 pub mod Confirmed
-pub mod Demands
-pub mod Slips
-pub mod Sketches
-pub mod Certificates
-pub mod Desk

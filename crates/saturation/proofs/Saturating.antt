@@ -5,14 +5,14 @@ use mathlib.Core.Bool.{Bool, true, false, false≢true}
 use mathlib.Core.List.{List}
 use mathlib.Core.Logic.{inl, inr, ⊎-elim}
 use native.Mathlib.Omega.{arith}
-use Rattle.notation.specs.Tokens.{choose}
+use Rattle.ground.specs.Choice.{choose}
 use Rattle.notation.specs.Triplets.{Triplet, negation}
 use Rattle.relation.specs.Relation.{Rel, IsRelation, Within}
 use Rattle.relation.specs.Least.{Least, Holds}
 use Rattle.relation.specs.contracts.Growing.{Growth}
 use Rattle.relation.specs.contracts.Classes.{Classes, entry, kept, rank}
 use Rattle.relation.specs.contracts.Keeping.{common, Shared, Joined, tied}
-use Rattle.notation.proofs.Cases.{split-eq}
+use Rattle.ground.proofs.Cases.{split-eq}
 use Rattle.relation.proofs.RelationLaws.{within-trans, least-below, growth-none, growth-more, growth-least}
 use Rattle.relation.proofs.ClassLaws.{is-relation, tied-cases}
 use Rattle.relation.proofs.RankLaws.{rank-settles}

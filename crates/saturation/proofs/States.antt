@@ -10,8 +10,8 @@ use lib.Dec.{eqb}
 use lib.Pow.{shr-shr}
 use Rattle.notation.specs.Triplets.{negation}
 use Rattle.relation.specs.Relation.{Rel, IsRelation, Within}
-use Rattle.notation.proofs.Cases.{split-eq}
-use Rattle.truth.specs.Value.{bit}
+use Rattle.ground.proofs.Cases.{split-eq}
+use Rattle.ground.specs.Bits.{bit}
 use Rattle.truth.specs.contracts.Computed.{literalValue}
 use Rattle.truth.proofs.Literals.{literal-even, literal-odd, parity}
 use Rattle.saturation.specs.Answer.{flagAs, flagsAs}

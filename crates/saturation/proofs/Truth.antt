@@ -6,12 +6,13 @@ use mathlib.Core.List.{List, [], _∷_}
 use mathlib.Core.Logic.{⊎-elim}
 use Rattle.notation.specs.Triplets.{Triplet, negation, Each}
 use Rattle.relation.specs.Relation.{Rel, IsRelation, Within}
-use Rattle.notation.proofs.Cases.{either}
+use Rattle.ground.proofs.Cases.{either}
 use Rattle.truth.specs.contracts.Computed.{literalValue}
 use Rattle.truth.proofs.Literals.{literal-even, literal-odd, literal-negation}
 use Rattle.steps.specs.Step.{Side, never, always, own-x, not-x, own-y, not-y, own-z, not-z, Values, literalAt, truthAt, connected}
 use Rattle.steps.specs.Rest.{HoldsStepOn}
-use Rattle.steps.proofs.Sides.{beq-eq, eq-beq, not-self}
+use Rattle.steps.proofs.Sides.{eq-beq, not-self}
+use Rattle.ground.proofs.Truths.{beq-eq}
 use Rattle.notation.proofs.EachTriplet.{each-map}
 use Rattle.saturation.specs.Saturation.{taken, Stable, Saturated}
 use Rattle.saturation.proofs.Taking.{above-taking, HoldsAll, above-taken}

@@ -8,7 +8,8 @@ use Rattle.notation.proofs.Shaped.{shaped, count-triplets}
 use Rattle.notation.specs.Guard.{Guard, connectives}
 use Rattle.notation.specs.Triplets.{tripletVariable, literal, triplets, numbers}
 use Rattle.notation.specs.contracts.Shape.{kindAt}
-use Rattle.truth.specs.Value.{bit, value}
+use Rattle.truth.specs.Value.{value}
+use Rattle.ground.specs.Bits.{bit}
 use Rattle.truth.specs.contracts.Computed.{literalValue, gate, computed, Valued}
 use Rattle.truth.proofs.Literals.{literal-even}
 use Rattle.truth.proofs.Computing.{valued}

@@ -6,7 +6,7 @@ use mathlib.Core.List.{List}
 use native.Mathlib.Omega.{arith}
 use native.Mathlib.Nat.{div-add-mod'}
 use lib.Pow.{field, mod-mod-pow, low}
-use Rattle.truth.specs.Value.{bit}
+use Rattle.ground.specs.Bits.{bit}
 use Rattle.truth.specs.contracts.Computed.{literalValue, computed, Valued, rootValue, Triplets}
 use Rattle.truth.proofs.Computing.{valued, valued-unique}
 use Rattle.gaps.specs.declared.writing.Found.{Found}

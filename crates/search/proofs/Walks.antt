@@ -9,9 +9,9 @@ use native.Mathlib.Numerals.{add-one}
 use lib.ListN.{length}
 use lib.Pow.{low, high, pow-pos, pow-mono, shl-exact}
 use lib.Dec.{eqb, ltb}
-use Rattle.notation.specs.Tokens.{choose}
+use Rattle.ground.specs.Choice.{choose}
 use Rattle.notation.specs.Ceilings.{flagCeiling, connectiveCeiling}
-use Rattle.truth.specs.Value.{bit}
+use Rattle.ground.specs.Bits.{bit}
 use Rattle.truth.specs.contracts.Computed.{computed, rootValue, Triplets}
 use Rattle.truth.proofs.Literals.{literal-even}
 use Rattle.truth.proofs.Computing.{flag-kept, true-at-start}

@@ -9,7 +9,7 @@ ghost use Prim.Native.Nat.{ℕ, suc, _+_, _*_, _^_, _≤_, _<_};
 ghost use lib.ListN.{length};
 ghost use Rattle.notation.specs.Ceilings.{connectiveCeiling};
 ghost use Rattle.notation.specs.Triplets.{tripletVariable};
-ghost use Rattle.truth.specs.Value.{bit};
+ghost use Rattle.ground.specs.Bits.{bit};
 ghost use Rattle.truth.specs.contracts.Computed.{rootValue, Triplets};
 ghost use Rattle.search.specs.contracts.Walking.{Rows, Stretch, Walked};
 

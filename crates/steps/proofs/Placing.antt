@@ -9,9 +9,9 @@ use lib.ListN.{getD}
 use lib.Dec.{eqb}
 use borrow.Author.Tests.{eq-eqb, ne-eqb}
 use Rattle.notation.specs.Triplets.{negation}
-use Rattle.notation.specs.Tokens.{choose}
+use Rattle.ground.specs.Choice.{choose}
 use Rattle.relation.specs.contracts.Classes.{lead, relation}
-use Rattle.notation.proofs.Cases.{split-eq}
+use Rattle.ground.proofs.Cases.{split-eq}
 use Rattle.relation.proofs.LiteralLaws.{same-variable}
 use Rattle.relation.proofs.ClassLaws.{lead-is, lead-negation, relation-leads, leads-same, contradictory-at}
 use Rattle.steps.specs.Step.{Side, own-x, own-y, own-z, literalAt}

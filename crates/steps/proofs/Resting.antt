@@ -12,7 +12,7 @@ use Rattle.notation.specs.contracts.Shape.{Names, kindAt, yAt, zAt, Shape}
 use Rattle.relation.specs.Relation.{Rel, IsRelation, Within}
 use Rattle.relation.specs.contracts.Growing.{Growth}
 use Rattle.relation.specs.contracts.Classes.{entry, relation, contradictory, kept, Classes, rank}
-use Rattle.notation.proofs.Cases.{split-eq}
+use Rattle.ground.proofs.Cases.{split-eq}
 use Rattle.relation.proofs.RelationLaws.{within-trans, growth-none, growth-more, growth-least, least-below}
 use Rattle.relation.proofs.ClassLaws.{relation-all, is-relation}
 use Rattle.relation.proofs.RankLaws.{rank-settles}

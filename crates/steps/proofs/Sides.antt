@@ -6,12 +6,7 @@ use native.Mathlib.Omega.{arith}
 use Rattle.notation.specs.Triplets.{negation}
 use Rattle.relation.specs.Relation.{Rel, IsRelation}
 use Rattle.steps.specs.Step.{Side, never, always, own-x, not-x, own-y, not-y, own-z, not-z, Values, literalAt, truthAt}
-
-pub beq-eq : (a b : Bool) → Bool·beq a b ≡ true → a ≡ b
-beq-eq true true e = refl
-beq-eq true false e = sym e
-beq-eq false true e = e
-beq-eq false false e = refl
+use Rattle.ground.proofs.Truths.{beq-eq}
 
 pub eq-beq : (a b : Bool) → a ≡ b → Bool·beq a b ≡ true
 eq-beq true true e = refl

@@ -8,7 +8,7 @@ use Rattle.notation.specs.Triplets.{negation}
 use Rattle.relation.specs.Relation.{Rel, IsRelation, Within}
 use Rattle.steps.specs.Step.{Side, never, always, own-x, own-y, own-z, literalAt, Adds, HoldsStep}
 use Rattle.steps.specs.Table.{xNamed, yNamed, zNamed, pattern, patternOf, follows, contradictory, entry, NamesHold}
-use Rattle.notation.proofs.Cases.{either}
+use Rattle.ground.proofs.Cases.{either}
 use Rattle.steps.proofs.Sides.{Closed, held, held-closed}
 use Rattle.steps.proofs.Patterns.{pattern-below}
 use Rattle.steps.proofs.Strongest.{follows-gives, gives-follows, follows-closed, follows-consistent, x-holds, y-holds, z-holds, all-held, named-fits, obeys-fits, fits-obeys, entry-contradicts, entry-names, entry-consistent}

@@ -9,7 +9,7 @@ use Rattle.relation.specs.Relation.{Rel, IsRelation, Within}
 use Rattle.relation.specs.Least.{Holds}
 use Rattle.relation.specs.contracts.Classes.{lead, entry as at, contradictory as broken, kept, Classes}
 use Rattle.relation.specs.contracts.Keeping.{Joined}
-use Rattle.notation.proofs.Cases.{either}
+use Rattle.ground.proofs.Cases.{either}
 use Rattle.notation.proofs.Shaped.{negation-half}
 use Rattle.relation.proofs.RelationLaws.{least-none, least-then, least-same}
 use Rattle.relation.proofs.ClassLaws.{relation-all, is-relation, true-leads}

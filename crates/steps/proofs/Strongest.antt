@@ -5,13 +5,14 @@ use mathlib.Core.Bool.{Bool, true, false, not, Bool·beq, _&&_, _||_, false≢tr
 use mathlib.Core.List.{List, [], _∷_}
 use mathlib.Core.Logic.{⊎-elim, _↔_}
 use native.Mathlib.Omega.{arith}
-use Rattle.notation.specs.Tokens.{choose}
+use Rattle.ground.specs.Choice.{choose}
 use Rattle.relation.specs.Relation.{Rel, IsRelation}
 use Rattle.steps.specs.Step.{Side, never, always, own-x, own-y, own-z, Values, truthAt, connected, Satisfies, Obeys}
 use Rattle.steps.specs.Table.{xNames, yNames, zNames, xNamed, yNamed, zNamed, pattern, patternOf, fits, both, each, follows, contradictory, entry}
 use Rattle.steps.proofs.Entries.{and-left, and-right}
-use Rattle.notation.proofs.Cases.{either}
-use Rattle.steps.proofs.Sides.{beq-eq, eq-beq, not-self, other, truth-other, Closed, Consistent, held, alike, held-closed, held-consistent, alike-closed}
+use Rattle.ground.proofs.Cases.{either}
+use Rattle.steps.proofs.Sides.{eq-beq, not-self, other, truth-other, Closed, Consistent, held, alike, held-closed, held-consistent, alike-closed}
+use Rattle.ground.proofs.Truths.{beq-eq}
 use Rattle.steps.proofs.Patterns.{first, pattern-below, x-named, y-named, z-named, generated}
 
 and-both : (a b : Bool) → a ≡ true → b ≡ true → a && b ≡ true

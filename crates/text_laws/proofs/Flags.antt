@@ -10,7 +10,7 @@ use borrow.Author.Tests.{leb-true, leb-false, le-leb}
 use Rattle.notation.specs.Tokens.{Code, Tokens, end, at}
 use Rattle.notation.specs.Walk.{Flag, sameCode, known, seen}
 use Rattle.notation.specs.Grammar.{number}
-use Rattle.notation.proofs.Cases.{either}
+use Rattle.ground.proofs.Cases.{either}
 use Rattle.notation.proofs.Coding.{known-number, number-append, number-here}
 use Rattle.notation.proofs.Numbered.{seen-fine}
 use Rattle.reading_back.proofs.Codes.{same-self}

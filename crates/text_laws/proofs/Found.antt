@@ -14,7 +14,7 @@ use Rattle.notation.specs.Walk.{Flag, seen, Outcome, refused, accepted, walk, o
 use Rattle.notation.specs.Guard.{Guard, flag, truth, negated, connectives}
 use Rattle.notation.specs.Grammar.{Parsed, found, follow, number, closed, sameOf, operandOf, inBrackets, treeOf, tree}
 use Rattle.notation.specs.Reading.{refusal, guard, judged, reading}
-use Rattle.notation.proofs.Cases.{either}
+use Rattle.ground.proofs.Cases.{either}
 use Rattle.notation.proofs.Accepted.{not-accepted, within-accepted, within-kept}
 use Rattle.operands.specs.contracts.Levels.{plain, operandsAt}
 use Rattle.operands.proofs.Operands.{no-tighter}

@@ -9,12 +9,13 @@ use mathlib.Core.List.{List, [], _∷_, _++_, map, map-append, append-nil}
 use lib.ListN.{length, length-append}
 use lib.Dec.{eqb}
 use borrow.Author.Tests.{eq-eqb, ne-eqb}
-use Rattle.notation.specs.Tokens.{Code, Tokens, end, at, choose, tokens}
+use Rattle.notation.specs.Tokens.{Code, Tokens, end, at, tokens}
+use Rattle.ground.specs.Choice.{choose}
 use Rattle.notation.specs.Walk.{Flag, known, seen}
 use Rattle.notation.specs.Guard.{Guard, flag, truth, negated, joined}
 use Rattle.notation.specs.Grammar.{number}
 use Rattle.notation.specs.Reading.{reading, guard}
-use Rattle.notation.proofs.Cases.{either, lt-or-ge}
+use Rattle.ground.proofs.Cases.{either, lt-or-ge}
 use Rattle.notation.proofs.Numbered.{seen-fine}
 use Rattle.reading_back.specs.Written.{among, met, order, upTo}
 use Rattle.text_laws.specs.Texts.{codeOf, codesIn, leaves, seenAt, seenIn}

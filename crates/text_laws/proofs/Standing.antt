@@ -9,11 +9,11 @@ use mathlib.Core.List.{List, [], _∷_}
 use lib.ListN.{length, take, drop, length-take}
 use lib.Dec.{leb, eqb}
 use Rattle.notation.specs.Ceilings.{codeCeiling}
-use Rattle.notation.specs.Tokens.{Code, Token, Tokens, same, implies, or, and, stray, long, code, hash, bang, sign, opening, closing, end, at}
-use Rattle.notation.specs.Tokens.{choose, codeByte, codeRun, coded, hashed, marked, tokenOf, further, tokensFrom, tokens}
+use Rattle.notation.specs.Tokens.{Code, Token, Tokens, same, implies, or, and, stray, long, code, hash, bang, sign, opening, closing, end, at, codeByte, codeRun, coded, hashed, marked, tokenOf, further, tokensFrom, tokens}
+use Rattle.ground.specs.Choice.{choose}
 use Rattle.notation.specs.Walk.{Flag, known, seen}
 use Rattle.notation.specs.Grammar.{number}
-use Rattle.notation.proofs.Cases.{either, never}
+use Rattle.ground.proofs.Cases.{either, never}
 use Rattle.notation.proofs.Cutting.{run-prefix}
 use Rattle.notation.proofs.Numbered.{seen-fine}
 use Rattle.text_laws.specs.Texts.{codeOf, seenAt, seenIn, Stands, IsFlag}

@@ -4,4 +4,3 @@ pub mod Root
 pub mod Written
 pub mod Below
 pub mod Valuing
-pub mod Evaluated

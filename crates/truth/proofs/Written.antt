@@ -9,10 +9,6 @@ use Rattle.notation.specs.Ceilings.{flagCeiling, connectiveCeiling}
 use Rattle.notation.specs.Guard.{Guard, connectives}
 use Rattle.notation.specs.Triplets.{literal, triplets, numbers}
 use Rattle.notation.specs.contracts.Shape.{Names, Shape, FlagsWithin}
-use Rattle.notation.specs.Reading.{reading}
-use Rattle.reading.specs.declared.parse.Guard as counted
-use Rattle.notation.proofs.Accepted.{reading-within}
-use Rattle.reading.proofs.Serving.{Found}
 use Rattle.notation.proofs.Shaped.{shaped, root-named}
 use Rattle.truth.specs.Value.{value}
 use Rattle.truth.specs.contracts.Computed.{computed, rootValue, Triplets}
@@ -55,28 +51,3 @@ module _ (n c root : ℕ) (g : Guard) (xs : List ℕ) (b : Begins n c root g xs)
       literal-agrees (computed n s xs c) (computed n s (numbers (triplets 0 g)) c) root
       (computed-same n s c (numbers (triplets 0 g)) xs agree (root / 2))
       ∙ rw (b .literal, b .count) (root-value n s g (b .few) (b .within) (shaped n g (b .within)))
-
--- what parse leaves behind where it answers a guard
-module _ (text : List ℕ) (x : counted.Guard) (codes xs : List ℕ) (f : Found text (reading text) x codes xs) where
-  -- there are as many flags as the text has
-  pub read-flags : x .flags ≡ length (f .flags)
-  read-flags = ap (λ (y : counted.Guard). y .flags) (f .counts)
-
-  read-count : x .count ≡ connectives (f .tree)
-  read-count = ap (λ (y : counted.Guard). y .count) (f .counts)
-
-  pub read-begins : Begins (x .flags) (x .count) (x .root) (f .tree) xs
-  read-begins =
-      record {
-        few = rw read-flags (f .read .few);
-        within = rw read-flags (reading-within text (f .tree) (f .flags) (f .says));
-        count = read-count;
-        literal = ap (λ (y : counted.Guard). y .root) (f .counts);
-        written = rw read-count (f .read .written);
-      }
-
-  -- and its triplets with their root, in a table for as many as there may be
-  pub read-triplets : length xs ≡ 3 * connectiveCeiling → Triplets (x .flags) xs (x .count) (x .root)
-  read-triplets long =
-      let short : x .count ≤ connectiveCeiling = rw read-count (f .read .short) in
-      written-triplets (x .flags) (x .count) (x .root) (f .tree) xs read-begins short (omega arith)

@@ -1,3 +1,2 @@
 pub mod Value
-pub mod Evaluated
 pub mod contracts

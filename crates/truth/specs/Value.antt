@@ -4,10 +4,7 @@ use mathlib.Core.Bool.{Bool, true, false, not}
 use lib.Dec.{eqb}
 use Rattle.notation.specs.Tokens.{Sign, same, implies, or, and}
 use Rattle.notation.specs.Guard.{Guard, flag, truth, negated, joined}
-
--- bit i of a number, counted from 0, the lowest
-unfoldable pub bit : ℕ → ℕ → Bool
-bit s i = eqb (s / 2 ^ i % 2) 1
+use Rattle.ground.specs.Bits.{bit}
 
 -- the truth table of each two-sided connective
 unfoldable pub table : Sign → Bool → Bool → Bool

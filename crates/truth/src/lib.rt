@@ -1,4 +1,3 @@
 // What a guard means.
-pub mod evaluate;
 pub mod states;
 pub mod values;

@@ -11,18 +11,17 @@ use Rattle.notation.specs.Ceilings.{textCeiling}
 use Rattle.notation.specs.Triplets.{Triplet, negation, literal, triplets, tripletVariable, Each}
 use Rattle.notation.specs.Guard.{Guard}
 use Rattle.notation.specs.Reading.{Reading, refusal, guard}
-use Rattle.notation.proofs.Cases.{either, never}
+use Rattle.ground.proofs.Cases.{either, never}
 use Rattle.notation.proofs.Shaped.{negation-half}
 use Rattle.relation.specs.Relation.{Rel, IsRelation}
 use Rattle.saturation.specs.Saturation.{taking, SaturationOf, Flags}
 use Rattle.saturation.specs.Answer as answer
 use Rattle.saturation.proofs.Taking.{above-taking, taking-holds, above-taken, taken-above}
-use Rattle.verdict.specs.Check.{depthCeiling, asked, GuardSays, ReadingSays, CheckSays}
-use Rattle.verdict.specs.declared.verdicts.Verdict.{Verdict}
-use Rattle.verdict.specs.declared.verdicts.Verdict.the-variants.{Refused}
-use Rattle.verdict.proofs.Checking.{asks-text}
-use Rattle.verdict_laws.specs.Trial.{Started, Tried, as-false, as-true, Through, no-flag, next-flag}
-use Rattle.verdict_laws.specs.Trial.{Fixes, Outline, is-covered, is-gap, is-undecided, OutlineSays, verdictFor}
+use Rattle.guard_check.specs.Check.{depthCeiling, asked, GuardSays, ReadingSays, CheckSays}
+use Rattle.guard_check.specs.declared.verdicts.Verdict.{Verdict}
+use Rattle.guard_check.specs.declared.verdicts.Verdict.the-variants.{Refused}
+use Rattle.guard_check.proofs.Checking.{asks-text}
+use Rattle.verdict_laws.specs.Trial.{Started, Tried, as-false, as-true, Through, no-flag, next-flag, Fixes, Outline, is-covered, is-gap, is-undecided, OutlineSays, verdictFor}
 use Rattle.verdict_laws.specs.Together.{IsRead}
 use Rattle.verdict_laws.proofs.Trials.{through-reaches, outline-answer, outline-same}
 use Rattle.verdict_laws.proofs.Services.{read-short}

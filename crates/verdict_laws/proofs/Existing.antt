@@ -6,7 +6,7 @@ use mathlib.Core.List.{List, [], _∷_}
 use mathlib.Core.Logic.{_⊎_, inl, inr, ⊎-elim}
 use native.Mathlib.Omega.{arith}
 use Rattle.notation.specs.Triplets.{Triplet, tripletVariable, Each}
-use Rattle.notation.proofs.Cases.{split-eq, lt-or-ge, either, never}
+use Rattle.ground.proofs.Cases.{split-eq, lt-or-ge, either, never}
 use Rattle.notation.proofs.Shaped.{negation-half}
 use Rattle.relation.specs.Relation.{Rel, IsRelation, Within}
 use Rattle.relation.proofs.RelationLaws.{within-refl}

@@ -5,8 +5,8 @@ use mathlib.Core.Path.{_≡_, refl}
 use mathlib.Core.Bool.{Bool, true, false, false≢true}
 use mathlib.Core.Logic.{_⊎_, inl, inr, ⊎-elim}
 use native.Mathlib.Omega.{arith}
-use Rattle.notation.specs.Tokens.{choose}
-use Rattle.notation.proofs.Cases.{split-eq}
+use Rattle.ground.specs.Choice.{choose}
+use Rattle.ground.proofs.Cases.{split-eq}
 use Rattle.relation.specs.Relation.{Rel, IsRelation, Within}
 use Rattle.relation.specs.Least.{Least, Holds}
 use Rattle.relation.proofs.RelationLaws.{least-none, least-below, within-trans}

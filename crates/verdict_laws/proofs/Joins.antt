@@ -7,9 +7,9 @@ use mathlib.Core.Logic.{⊎-elim}
 use native.Mathlib.Omega.{arith}
 use lib.Dec.{eqb}
 use borrow.Author.Tests.{eqb-true, eq-eqb}
-use Rattle.notation.specs.Tokens.{choose}
+use Rattle.ground.specs.Choice.{choose}
 use Rattle.notation.specs.Triplets.{negation}
-use Rattle.notation.proofs.Cases.{split-eq, either, never}
+use Rattle.ground.proofs.Cases.{split-eq, either, never}
 use Rattle.notation.proofs.Shaped.{negation-half}
 use Rattle.relation.specs.Relation.{Rel, IsRelation, Within}
 use Rattle.relation.specs.Least.{Least, Holds}

@@ -1,3 +1,5 @@
+pub mod Guards
+pub mod Demands
 pub mod Trials
 pub mod Services
 pub mod Refusals

@@ -7,19 +7,19 @@ use lib.ListN.{length}
 use Rattle.notation.specs.Ceilings.{textCeiling}
 use Rattle.notation.specs.Reading.{Reading, refusal, reading}
 use Rattle.notation.specs.declared.refusal.Refusal.{Refusal}
-use Rattle.notation.proofs.Cases.{lt-or-ge}
+use Rattle.ground.proofs.Cases.{lt-or-ge}
 use Rattle.reading.specs.Service.{ReadSays, readAnswer, roomAfter, refusedWith, nameAnswer, unnamed}
 use Rattle.reading.specs.declared.parse.Parsed.{Parsed}
 use Rattle.reading.proofs.Parsing.{too-long}
-use Rattle.truth.proofs.Evaluated.{evaluates-refusal}
-use Rattle.listing.specs.declared.Listing.the-variants as listing
-use Rattle.listing.proofs.Listed.{lists-refusal}
-use Rattle.listing.proofs.Complete.{lists-unique}
-use Rattle.verdict.specs.Check.{depthCeiling, asked, ReadingSays, CheckSays}
-use Rattle.verdict.specs.declared.verdicts.Verdict.{Verdict}
-use Rattle.verdict.specs.declared.verdicts.Verdict.the-variants.{Refused}
-use Rattle.verdict.proofs.Checking.{asks-long, refused-too}
-use Rattle.verdict.proofs.Unique.{check-unique}
+use Rattle.evaluate.proofs.Evaluated.{evaluates-refusal}
+use Rattle.list.specs.declared.Listing.the-variants as listing
+use Rattle.list.proofs.Listed.{lists-refusal}
+use Rattle.list.proofs.Complete.{lists-unique}
+use Rattle.guard_check.specs.Check.{depthCeiling, asked, ReadingSays, CheckSays}
+use Rattle.guard_check.specs.declared.verdicts.Verdict.{Verdict}
+use Rattle.guard_check.specs.declared.verdicts.Verdict.the-variants.{Refused}
+use Rattle.guard_check.proofs.Checking.{asks-long, refused-too}
+use Rattle.guard_check.proofs.Unique.{check-unique}
 use Rattle.verdict_laws.specs.Together.{RefusedTogether}
 
 -- where one verdict is what check says, it is all that check says

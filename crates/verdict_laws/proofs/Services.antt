@@ -14,29 +14,29 @@ use Rattle.notation.specs.Ceilings.{textCeiling}
 use Rattle.notation.specs.Walk.{Flag}
 use Rattle.notation.specs.Guard.{Guard}
 use Rattle.notation.specs.Reading.{Reading, refusal, guard, reading}
-use Rattle.notation.proofs.Cases.{lt-or-ge, never}
+use Rattle.ground.proofs.Cases.{lt-or-ge, never}
 use Rattle.notation.proofs.Accepted.{reading-accepted}
 use Rattle.reading.proofs.Parsing.{too-long}
 use Rattle.truth.specs.Value.{value}
-use Rattle.truth.specs.Evaluated.{evaluated}
-use Rattle.truth.specs.declared.evaluate.Evaluation.the-variants as evaluation
+use Rattle.evaluate.specs.Evaluated.{evaluated}
+use Rattle.evaluate.specs.declared.Evaluation.the-variants as evaluation
 use Rattle.gaps.specs.Gaps.{gapsFrom}
 use Rattle.gaps.specs.Writing.{found, placed}
 use Rattle.gaps.specs.declared.writing.Found.{Found}
 use Rattle.gaps.specs.declared.writing.Found.the-variants.{Done, More}
 use Rattle.gaps.proofs.Written.{found-done}
 use Rattle.gaps.proofs.Ascending.{false-none}
-use Rattle.listing.specs.Listed.{listed, filled, Lists, Among, Ascends}
-use Rattle.listing.specs.declared.Listing.{Listing}
-use Rattle.listing.specs.declared.Listing.the-variants as listing
-use Rattle.listing.proofs.Complete.{gaps-exact, gaps-ascend, placed-written, found-all-or-more}
+use Rattle.list.specs.Listed.{listed, filled, Lists, Among, Ascends}
+use Rattle.list.specs.declared.Listing.{Listing}
+use Rattle.list.specs.declared.Listing.the-variants as listing
+use Rattle.list.proofs.Complete.{gaps-exact, gaps-ascend, placed-written, found-all-or-more}
 use Rattle.saturation.specs.Answer.{Proper}
-use Rattle.saturation.proofs.Demands.{checked-full, checked-full-gap}
-use Rattle.verdict.specs.Check.{depthCeiling, ReadingSays, CheckSays}
-use Rattle.verdict.specs.declared.verdicts.Verdict.{Verdict}
-use Rattle.verdict.specs.declared.verdicts.Verdict.the-variants.{Covered, Gap, Undecided, Refused}
-use Rattle.verdict.proofs.Checking.{asks-long, asks-deep, asks-text, guard-too}
-use Rattle.verdict.proofs.Demands.{covered-true, gap-first}
+use Rattle.verdict_laws.proofs.Guards.{checked-full, checked-full-gap}
+use Rattle.guard_check.specs.Check.{depthCeiling, ReadingSays, CheckSays}
+use Rattle.guard_check.specs.declared.verdicts.Verdict.{Verdict}
+use Rattle.guard_check.specs.declared.verdicts.Verdict.the-variants.{Covered, Gap, Undecided, Refused}
+use Rattle.guard_check.proofs.Checking.{asks-long, asks-deep, asks-text, guard-too}
+use Rattle.verdict_laws.proofs.Demands.{covered-true, gap-first}
 use Rattle.verdict_laws.specs.Together.{IsRead, NoRefusal, GapTogether, CoveredTogether, NoneTogether, NextTogether}
 
 -- ---- a verdict that is no refusal is on a text that is read

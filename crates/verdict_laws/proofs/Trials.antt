@@ -13,8 +13,7 @@ use Rattle.saturation.proofs.Fixed.{negation-even}
 use Rattle.saturation.proofs.Splits.{refuted-held, trial-next}
 use Rattle.saturation.proofs.Confirmed.{trial-below}
 use Rattle.saturation.proofs.Verdicts.{answer-unique}
-use Rattle.verdict_laws.specs.Trial.{Contradictory, Started, Added, Tried, as-false, as-true, Through, no-flag, next-flag}
-use Rattle.verdict_laws.specs.Trial.{Fixes, Outline, is-covered, is-gap, is-undecided, Reached}
+use Rattle.verdict_laws.specs.Trial.{Contradictory, Started, Added, Tried, as-false, as-true, Through, no-flag, next-flag, Fixes, Outline, is-covered, is-gap, is-undecided, Reached}
 
 module _ (D : ℕ → Type 0) (ts : List Triplet) (root k : ℕ) where
   -- on the way: T is "root = false" and flags 1 to i as the state s has them, saturated

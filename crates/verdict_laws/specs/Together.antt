@@ -12,15 +12,15 @@ use Rattle.notation.specs.Reading.{guard, reading}
 use Rattle.notation.specs.declared.refusal.Refusal.{Refusal}
 use Rattle.reading.specs.Service.{ReadSays, refusedWith, nameAnswer, unnamed}
 use Rattle.reading.specs.declared.parse.Parsed.{Parsed}
-use Rattle.truth.specs.Evaluated.{evaluated}
-use Rattle.truth.specs.declared.evaluate.Evaluation.the-variants as evaluation
+use Rattle.evaluate.specs.Evaluated.{evaluated}
+use Rattle.evaluate.specs.declared.Evaluation.the-variants as evaluation
 use Rattle.gaps.specs.declared.writing.Found.the-variants.{Done, More}
-use Rattle.listing.specs.Listed.{Lists}
-use Rattle.listing.specs.declared.Listing.{Listing}
-use Rattle.listing.specs.declared.Listing.the-variants as listing
-use Rattle.verdict.specs.Check.{depthCeiling, CheckSays}
-use Rattle.verdict.specs.declared.verdicts.Verdict.{Verdict}
-use Rattle.verdict.specs.declared.verdicts.Verdict.the-variants.{Covered, Gap, Undecided, Refused}
+use Rattle.list.specs.Listed.{Lists}
+use Rattle.list.specs.declared.Listing.{Listing}
+use Rattle.list.specs.declared.Listing.the-variants as listing
+use Rattle.guard_check.specs.Check.{depthCeiling, CheckSays}
+use Rattle.guard_check.specs.declared.verdicts.Verdict.{Verdict}
+use Rattle.guard_check.specs.declared.verdicts.Verdict.the-variants.{Covered, Gap, Undecided, Refused}
 
 -- the text is read: it is a guard with these flags, and its states are the numbers below 2 ^ length flags
 pub record IsRead (text : List ℕ) : Type 0 where

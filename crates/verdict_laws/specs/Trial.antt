@@ -9,8 +9,8 @@ use Rattle.notation.specs.Triplets.{Triplet, negation, literal, triplets}
 use Rattle.relation.specs.Relation.{Rel, Within}
 use Rattle.saturation.specs.Saturation.{taking, taken, SaturationOf, Flags}
 use Rattle.saturation.specs.Answer.{Verdict, covered, gap, undecided, flagAs, flagsAs, Refuted, Trial}
-use Rattle.verdict.specs.declared.verdicts.Verdict as verdicts
-use Rattle.verdict.specs.declared.verdicts.Verdict.the-variants as verdict
+use Rattle.guard_check.specs.declared.verdicts.Verdict as verdicts
+use Rattle.guard_check.specs.declared.verdicts.Verdict.the-variants as verdict
 
 -- a relation is contradictory where it holds true = false
 abbrev pub Contradictory : Rel → Type 0

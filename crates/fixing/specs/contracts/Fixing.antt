@@ -5,10 +5,10 @@ use mathlib.Core.Bool.{Bool, true}
 use mathlib.Core.List.{List}
 use mathlib.Core.Logic.{_⊎_}
 use lib.ListN.{length, getD}
-use Rattle.notation.specs.Tokens.{choose}
+use Rattle.ground.specs.Choice.{choose}
 use Rattle.notation.specs.Triplets.{tripletVariable, negation}
 use Rattle.notation.specs.contracts.Shape.{Names, Shape, kindAt, yAt, zAt}
-use Rattle.truth.specs.Value.{bit}
+use Rattle.ground.specs.Bits.{bit}
 use Rattle.truth.specs.contracts.Computed.{literalValue, gate, computed}
 
 -- the literal r, of true or of an operand's variable, always has the value of a triplet of this kind of y and z

@@ -5,8 +5,8 @@ use mathlib.Core.Bool.{Bool, true}
 use mathlib.Core.List.{List, _++_}
 use lib.ListN.{length, take}
 use lib.Dec.{ltb}
-use Rattle.notation.specs.Tokens.{choose}
-use Rattle.truth.specs.Value.{bit}
+use Rattle.ground.specs.Choice.{choose}
+use Rattle.ground.specs.Bits.{bit}
 use Rattle.gaps.specs.declared.writing.Found.{Found}
 use Rattle.gaps.specs.Writing.{found, placed}
 

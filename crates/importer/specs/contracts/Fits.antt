@@ -9,14 +9,14 @@ use Rattle.reading.specs.declared.parse.Parsed.{Parsed}
 use Rattle.reading.specs.declared.parse.Parsed.the-variants as parsed
 use Rattle.reading.specs.declared.name.Named.{Named}
 use Rattle.reading.specs.declared.name.Named.the-variants as named
-use Rattle.truth.specs.declared.evaluate.Evaluation.{Evaluation}
-use Rattle.truth.specs.declared.evaluate.Evaluation.the-variants as evaluation
+use Rattle.evaluate.specs.declared.Evaluation.{Evaluation}
+use Rattle.evaluate.specs.declared.Evaluation.the-variants as evaluation
 use Rattle.gaps.specs.declared.writing.Found.{Found}
 use Rattle.gaps.specs.declared.writing.Found.the-variants as found
-use Rattle.listing.specs.declared.Listing.{Listing}
-use Rattle.listing.specs.declared.Listing.the-variants as listing
-use Rattle.verdict.specs.declared.verdicts.Verdict.{Verdict}
-use Rattle.verdict.specs.declared.verdicts.Verdict.the-variants as verdict
+use Rattle.list.specs.declared.Listing.{Listing}
+use Rattle.list.specs.declared.Listing.the-variants as listing
+use Rattle.guard_check.specs.declared.verdicts.Verdict.{Verdict}
+use Rattle.guard_check.specs.declared.verdicts.Verdict.the-variants as verdict
 
 -- a number of the table, and a place within the longest text
 pub record RefusalFits (f : Refusal) : Type 0 where

@@ -5,7 +5,7 @@ use mathlib.Core.Bool.{Bool, true, false}
 use mathlib.Core.List.{List}
 use lib.ListN.{length}
 use lib.Dec.{eqb}
-use Rattle.notation.specs.Tokens.{choose}
+use Rattle.ground.specs.Choice.{choose}
 use Rattle.relation.specs.Relation.{Rel}
 use Rattle.relation.specs.Least.{Least, Holds}
 use Rattle.relation.specs.contracts.Classes.{variableCeiling, Classes, contradictory, entry, kept, lead}

@@ -86,7 +86,7 @@ loop-again c =
     let loop· = c .before .before .before .before .before .loop in
     let flag-row· = c .before .before .flag-row in
     let loop-test· = c .before .before .before .before .loop-test in
-    (first-more _ _ _ _ _ _ (loop· .inv .0) (flag-row· .ensures), omega (arith, loop-test· .taken))
+    (first-more _ _ _ _ _ _ _ (loop· .inv .0) (flag-row· .ensures) (omega arith), omega (arith, loop-test· .taken))
 
 same-length : tie.Need-same-length Inv-loop μ-loop
 same-length c =

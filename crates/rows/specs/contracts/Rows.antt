@@ -5,10 +5,10 @@ use mathlib.Core.Bool.{Bool, true}
 use mathlib.Core.List.{List}
 use lib.ListN.{length, getD}
 use lib.Dec.{eqb}
-use Rattle.notation.specs.Tokens.{choose}
+use Rattle.ground.specs.Choice.{choose}
 use Rattle.notation.specs.Triplets.{tripletVariable}
 use Rattle.notation.specs.contracts.Shape.{kindAt, yAt, zAt}
-use Rattle.truth.specs.Value.{bit}
+use Rattle.ground.specs.Bits.{bit}
 use Rattle.truth.specs.contracts.Computed.{literalValue, gate, Valued}
 
 -- the value of the variable v in the state s, as rows of so many words have it

@@ -4,7 +4,7 @@ use mathlib.Core.Path.{_≡_}
 use mathlib.Core.List.{List, [], _∷_}
 use lib.Dec.{eqb}
 use Rattle.notation.specs.Triplets.{negation}
-use Rattle.notation.specs.Tokens.{choose}
+use Rattle.ground.specs.Choice.{choose}
 
 -- the place, counted from 0, of the first of a list of literals that is l
 abbrev pub place : ℕ → List ℕ → ℕ

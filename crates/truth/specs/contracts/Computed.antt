@@ -6,10 +6,12 @@ use mathlib.Core.List.{List}
 use lib.ListN.{length}
 use lib.Dec.{eqb}
 use Rattle.notation.specs.Ceilings.{flagCeiling, connectiveCeiling}
-use Rattle.notation.specs.Tokens.{same, implies, choose}
+use Rattle.notation.specs.Tokens.{same, implies}
+use Rattle.ground.specs.Choice.{choose}
 use Rattle.notation.specs.Triplets.{tripletVariable}
 use Rattle.notation.specs.contracts.Shape.{Names, Shape, kindAt, yAt, zAt}
-use Rattle.truth.specs.Value.{bit, table}
+use Rattle.truth.specs.Value.{table}
+use Rattle.ground.specs.Bits.{bit}
 
 -- the value of a literal, where v gives the values of variables: 2v is variable v, 2v + 1 its negation
 unfoldable pub literalValue : (ℕ → Bool) → ℕ → Bool

@@ -3,8 +3,8 @@ use Prim.Native.Nat.{ℕ}
 use mathlib.Core.Path.{_≡_, refl, subst, sym, ap, _∙_}
 use mathlib.Core.Bool.{Bool, true, false}
 use mir.Val.{boolByte}
-use Rattle.notation.specs.Tokens.{choose}
-use Rattle.truth.specs.declared.evaluate.Evaluation.{Evaluation}
+use Rattle.ground.specs.Choice.{choose}
+use Rattle.evaluate.specs.declared.Evaluation.{Evaluation}
 use Rattle.importer.specs.Packed.{packedEvaluation}
 use Rattle.importer.specs.contracts.Fits.{EvaluationFits}
 use borrow.Author.Needs.{needs}

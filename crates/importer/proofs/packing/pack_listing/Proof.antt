@@ -1,6 +1,6 @@
 -- `importer::packing::pack_listing` meets its contract, by the two cases.
 use mathlib.Core.Path.{subst, sym, ap, _∙_}
-use Rattle.listing.specs.declared.Listing.{Listing}
+use Rattle.list.specs.declared.Listing.{Listing}
 use Rattle.importer.specs.Packed.{packedListing}
 use Rattle.importer.specs.contracts.Fits.{ListingFits}
 use borrow.Author.Needs.{needs}

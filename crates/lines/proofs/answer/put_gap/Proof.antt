@@ -1,5 +1,5 @@
 -- `lines::answer::put_gap` meets its contract: the word, then the flags.
-use Rattle.verdict.specs.Desk.{bytes}
+use Rattle.ground.specs.Bytes.{bytes}
 use Rattle.lines.proofs.Answering.{gap-put}
 use borrow.Author.Needs.{needs}
 use Rattle.lines.proofs.answer.put_gap.Statement.{statement}

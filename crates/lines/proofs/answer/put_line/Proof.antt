@@ -1,5 +1,5 @@
 -- `lines::answer::put_line` meets its contract: the line number, a space, the verdict and LF.
-use Rattle.verdict.specs.Desk.{bytes}
+use Rattle.ground.specs.Bytes.{bytes}
 use Rattle.lines.proofs.Answering.{line-put}
 use borrow.Author.Needs.{needs}
 use Rattle.lines.proofs.answer.put_line.Statement.{statement}

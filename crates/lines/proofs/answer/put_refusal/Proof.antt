@@ -1,6 +1,6 @@
 -- `lines::answer::put_refusal` meets its contract: the word, the number, a space and the place.
 use mathlib.Core.List.{[]}
-use Rattle.verdict.specs.Desk.{bytes}
+use Rattle.ground.specs.Bytes.{bytes}
 use Rattle.lines.proofs.Answering.{refusal-put}
 use borrow.Author.Needs.{needs}
 use Rattle.lines.proofs.answer.put_refusal.Statement.{statement}

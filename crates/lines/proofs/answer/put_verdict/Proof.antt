@@ -1,5 +1,5 @@
 -- `lines::answer::put_verdict` meets its contract: by the four cases.
-use Rattle.verdict.specs.Desk.{bytes}
+use Rattle.ground.specs.Bytes.{bytes}
 use Rattle.lines.specs.Printed.{answered}
 use Rattle.lines.proofs.Answering.{covered-put, undecided-put, verdict-as}
 use borrow.Author.Needs.{needs}

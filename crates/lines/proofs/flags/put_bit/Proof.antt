@@ -1,8 +1,8 @@
 -- `lines::flags::put_bit` meets its contract: one digit, by the value.
 use mathlib.Core.Path.{refl, sym, ap}
 use mathlib.Core.Bool.{Bool}
-use Rattle.notation.specs.Tokens.{choose}
-use Rattle.verdict.specs.Desk.{bytes}
+use Rattle.ground.specs.Choice.{choose}
+use Rattle.ground.specs.Bytes.{bytes}
 use Rattle.lines.proofs.Putting.{puts-as}
 use borrow.Author.Needs.{needs}
 use Rattle.lines.proofs.flags.put_bit.Statement.{statement}

@@ -6,7 +6,7 @@ use mathlib.Core.Logic.{⊎-elim}
 use native.Mathlib.Omega.{arith}
 use lib.ListN.{length}
 use Rattle.relation.specs.contracts.Classes.{variableCeiling, entry, moved}
-use Rattle.notation.proofs.Cases.{lt-or-ge}
+use Rattle.ground.proofs.Cases.{lt-or-ge}
 use Rattle.relation.proofs.ClassLaws.{entry-at, stored-below, stored-other}
 use Rattle.relation.proofs.JoinLaws.{merge-done, moved-low, moved-beyond}
 use Rattle.relation.proofs.joining.merge.Statement.{statement}

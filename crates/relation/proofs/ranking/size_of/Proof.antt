@@ -6,7 +6,7 @@ use native.Mathlib.Omega.{arith}
 use lib.ListN.{getD}
 use lib.Dec.{eqb}
 use borrow.Author.Tests.{eq-eqb, ne-eqb}
-use Rattle.notation.specs.Tokens.{choose}
+use Rattle.ground.specs.Choice.{choose}
 use Rattle.relation.specs.contracts.Classes.{entry, own}
 use Rattle.relation.proofs.ClassLaws.{entry-at}
 use Rattle.relation.proofs.RankLaws.{own-none, own-most, chosen-most, counted-on, rank-contradictory, rank-consistent}

@@ -8,7 +8,7 @@ use lib.ListN.{length, set}
 use lib.Seq.{getD-set-same}
 use Rattle.relation.specs.contracts.Classes.{variableCeiling, entry}
 use Rattle.relation.specs.contracts.Keeping.{SharedLeader}
-use Rattle.notation.proofs.Cases.{split-eq}
+use Rattle.ground.proofs.Cases.{split-eq}
 use Rattle.relation.proofs.ClassLaws.{lowers, stored-other}
 use Rattle.relation.proofs.ShareLaws.{still-lower, shared-beyond, shared-same, shared-done}
 use Rattle.relation.proofs.sharing.intersect.Statement.{statement}

@@ -1,0 +1,4 @@
+pub mod Trying
+pub mod Tables
+pub mod Checking
+pub mod Unique

@@ -1,0 +1,5 @@
+pub mod Sketches
+pub mod Certificates
+pub mod Slips
+pub mod Checked
+pub mod Table

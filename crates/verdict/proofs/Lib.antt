@@ -1,6 +1,0 @@
-pub mod Trying
-pub mod Tables
-pub mod Checking
-pub mod Unique
-pub mod Desk
-pub mod Demands

@@ -1,3 +1,0 @@
-pub mod Check
-pub mod Desk
-pub mod contracts
