@@ -9,7 +9,7 @@ use Rattle.notation.specs.Tokens.{Sign, same, implies, or, and}
 use Rattle.notation.specs.Guard.{Guard, joined, connectives}
 use Rattle.notation.specs.Triplets.{tripletOf, literalOf, literal, triplets, numbers, tripletVariable, literalCeiling, tripletAt}
 use Rattle.notation.proofs.Writing.{numbers-append, take-put}
-use Rattle.operands.specs.Levels.{Writes}
+use Rattle.levels.specs.Levels.{Writes}
 
 pub connectives-joined : (s : Sign) (g h : Guard) → connectives (joined s g h) ≡ connectives g + connectives h + 1
 unfolding connectives

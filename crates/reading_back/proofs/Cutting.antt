@@ -12,7 +12,7 @@ use borrow.Author.Tests.{le-leb, ne-eqb}
 use Rattle.notation.specs.Ceilings.{codeCeiling}
 use Rattle.notation.specs.Tokens.{Sign, same, implies, or, and, Token, Tokens, code, hash, bang, sign, opening, closing, at, choose, among, codeByte, codeRun, coded, hashed, marked, tokenOf, further, tokensFrom}
 use Rattle.notation.specs.Grammar.{isSign, signNext, sameSign, past}
-use Rattle.operands.specs.Levels.{binding}
+use Rattle.operands.specs.Steps.{binding}
 use Rattle.notation.proofs.Cases.{either}
 use Rattle.operands.proofs.Stepping.{same-binding}
 use Rattle.reading_back.specs.Written.{signByte, codeBytes, IsCode}

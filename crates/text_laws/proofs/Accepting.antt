@@ -12,7 +12,7 @@ use Rattle.notation.specs.Tokens.{Tokens, Sign, same, implies, or, and, stray, 
 use Rattle.notation.specs.Walk.{Flag, Outcome, refused, accepted, walk, operand, after, within}
 use Rattle.notation.specs.Grammar.{sameSign, isSign, signNext, past}
 use Rattle.notation.proofs.Cases.{either}
-use Rattle.operands.specs.Levels.{binding}
+use Rattle.operands.specs.Steps.{binding}
 
 -- a refusal is no acceptance
 pub not-accepted : (k p : ℕ) (w : List Flag) (j : ℕ) → refused k p ≡ accepted w j → ⊥

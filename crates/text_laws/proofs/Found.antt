@@ -15,7 +15,7 @@ use Rattle.notation.specs.Guard.{Guard, flag, truth, negated, connectives}
 use Rattle.notation.specs.Grammar.{Parsed, found, follow, number, closed, sameOf, operandOf, inBrackets, treeOf, tree}
 use Rattle.notation.specs.Reading.{refusal, guard, judged, reading}
 use Rattle.notation.proofs.Cases.{either}
-use Rattle.operands.specs.Levels.{plain, operandsAt}
+use Rattle.levels.specs.Levels.{plain, operandsAt}
 use Rattle.operands.proofs.Operands.{no-tighter}
 use Rattle.text_laws.specs.Texts.{whole, codeOf, leaves, seenAt}
 use Rattle.text_laws.proofs.Accepting.{not-accepted, kept, Closing, closing-is, Ended, end-is}

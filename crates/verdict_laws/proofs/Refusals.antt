@@ -10,7 +10,6 @@ use Rattle.notation.specs.declared.refusal.Refusal.{Refusal}
 use Rattle.notation.proofs.Cases.{lt-or-ge}
 use Rattle.reading.specs.Service.{ReadSays, readAnswer, roomAfter, refusedWith, nameAnswer, unnamed}
 use Rattle.reading.specs.declared.parse.Parsed.{Parsed}
-use Rattle.reading.proofs.Parsing.{too-long}
 use Rattle.truth.proofs.Evaluated.{evaluates-refusal}
 use Rattle.listing.specs.declared.Listing.the-variants as listing
 use Rattle.listing.proofs.Listed.{lists-refusal}
@@ -21,6 +20,7 @@ use Rattle.verdict.specs.declared.verdicts.Verdict.the-variants.{Refused}
 use Rattle.verdict.proofs.Checking.{asks-long, refused-too}
 use Rattle.verdict.proofs.Unique.{check-unique}
 use Rattle.verdict_laws.specs.Together.{RefusedTogether}
+use Rattle.verdict_laws.proofs.Services.{over-ceiling}
 
 -- where one verdict is what check says, it is all that check says
 says-only : (text : List ℕ) (depth : ℕ) (v : Verdict) → CheckSays text depth v → (r : Verdict) → CheckSays text depth r ↔ (r ≡ v)
@@ -29,7 +29,7 @@ says-only text depth v h r = (λ a. check-unique text depth r v a h, λ e. subst
 module _ (text : List ℕ) (f : Refusal) (says : reading text ≡ refusal (f .number) (f .place)) where
   check-long : textCeiling < length text → (depth : ℕ) → CheckSays text depth (Refused f)
   check-long h depth =
-      let e : asked text depth ≡ refusal (f .number) (f .place) = asks-long text depth h ∙ sym (too-long text h) ∙ says in
+      let e : asked text depth ≡ refusal (f .number) (f .place) = asks-long text depth h ∙ sym (over-ceiling text h) ∙ says in
       subst (λ (x : Reading). ReadingSays x depth (Refused f)) (sym e) refl
 
   check-here : (depth : ℕ) → depth ≤ depthCeiling → CheckSays text depth (Refused f)

@@ -16,7 +16,7 @@ use Rattle.notation.specs.Guard.{Guard}
 use Rattle.notation.specs.Reading.{Reading, refusal, guard, reading}
 use Rattle.notation.proofs.Cases.{lt-or-ge, never}
 use Rattle.notation.proofs.Accepted.{reading-accepted}
-use Rattle.reading.proofs.Parsing.{too-long}
+use Rattle.reading.proofs.Parsing.{from-start, too-long}
 use Rattle.truth.specs.Value.{value}
 use Rattle.truth.specs.Evaluated.{evaluated}
 use Rattle.truth.specs.declared.evaluate.Evaluation.the-variants as evaluation
@@ -76,11 +76,14 @@ unfolding placed
 placed-none out = rw (take-all {A = ℕ} (length out) [] (omega arith))
 
 -- ---- a text that is read is within its ceiling, and so is its guard
+pub over-ceiling : (text : List ℕ) → textCeiling < length text → reading text ≡ refusal 1 textCeiling
+over-ceiling text h = sym (from-start text) ∙ too-long text 0 [] (omega arith)
+
 pub read-short : (text : List ℕ) (g : Guard) (u : List Flag) → reading text ≡ guard g u → length text ≤ textCeiling
 read-short text g u e =
     ⊎-elim
     (λ (a : textCeiling < length text).
-    let r : refusal 1 textCeiling ≡ guard g u = sym (too-long text a) ∙ e in let z : _≡_ {A = ℕ} 0 1 = cc in absurd (omega arith))
+    let r : refusal 1 textCeiling ≡ guard g u = sym (over-ceiling text a) ∙ e in let z : _≡_ {A = ℕ} 0 1 = cc in absurd (omega arith))
     (λ (a : length text ≤ textCeiling). a)
     (lt-or-ge textCeiling (length text))
 
