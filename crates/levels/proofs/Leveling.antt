@@ -14,7 +14,8 @@ use Rattle.notation.specs.Tokens.{Tokens, Sign, same, implies, or, and, stray, 
 use Rattle.notation.specs.Walk.{Flag, walk, operand, after, within}
 use Rattle.notation.specs.Guard.{Guard, joined, connectives}
 use Rattle.notation.specs.Grammar.{Level, Parsed, found, follow, isSign, signNext, past, toTheLeft, toTheRight, leftLevel}
-use Rattle.operands.specs.contracts.Levels.{binding, plain, Reads}
+use Rattle.operands.specs.contracts.Steps.{binding}
+use Rattle.levels.specs.contracts.Levels.{plain, Reads}
 use Rattle.levels.proofs.Written.{connectives-joined}
 
 -- after an operand the walk passes a sign that is within the ceiling
@@ -83,7 +84,8 @@ module _ (s : Sign) (next : Level) where
       toTheRight s next (suc n) u ts ≡ found (joined s g h) w vs
   unfolding toTheRight follow
   right-more n u ts g v us h w vs e f k =
-      ap (λ (p : Parsed). follow p (λ x y zs. grouped n x y zs)) e ∙ ap (λ (t : Bool). branch n g v us t) f ∙ ap (λ (p : Parsed). follow p (λ x y zs. found (joined s g x) y zs)) k
+      ap (λ (p : Parsed). follow p (λ x y zs. grouped n x y zs)) e ∙ ap (λ (t : Bool). branch n g v us t) f ∙ ap
+      (λ (p : Parsed). follow p (λ x y zs. found (joined s g x) y zs)) k
 
   right-done : (n : ℕ) (u : List Flag) (ts : Tokens) (g : Guard) (v : List Flag) (us : Tokens) → next u ts ≡ found g v us → signNext s us ≡ false →
       toTheRight s next n u ts ≡ found g v us

@@ -14,16 +14,13 @@ use Rattle.notation.specs.Guard.{Guard, negated, connectives}
 use Rattle.notation.specs.Grammar.{Level, Parsed, found, follow, past, closed, operandOf, inBrackets, sameOf, toTheRight, rightLevel}
 use Rattle.notation.specs.Triplets.{Triplet, literal, triplets, numbers, negation, literalCeiling}
 use Rattle.notation.specs.contracts.Writing.{signed}
-use Rattle.notation.specs.contracts.Cut.{aheadAs, ahead, ends}
+use Rattle.notation.specs.contracts.Cut.{aheadAs, ahead, ends, FaultyHere}
 use Rattle.notation.specs.contracts.Codes.{flagsIn, InText}
-use Rattle.operands.specs.contracts.Levels.{plain, bangs, TokenFits, Standing, AdvancedSays, ClosedSays, FoundPart, LevelSays, operandsAt}
+use Rattle.operands.specs.contracts.Steps.{At, Part, bangs, TokenFits, Standing, Advanced, Closed}
+use Rattle.levels.specs.contracts.Levels.{plain, FoundPart, operandsAt}
 use Rattle.notation.specs.declared.refusal.Refusal.{Refusal}
-use Rattle.notation.specs.declared.tokens.Kind.{Kind}
-use Rattle.notation.specs.declared.tokens.Kind.the-variants as kind
-use Rattle.operands.specs.declared.At.{At}
-use Rattle.operands.specs.declared.Part.{Part}
-use Rattle.operands.specs.declared.Operand.{Operand}
-use Rattle.operands.specs.declared.Operand.the-variants as answer
+use Rattle.notation.specs.declared.place.Kind.{Kind}
+use Rattle.notation.specs.declared.place.Kind.the-variants as kind
 use Rattle.operands.proofs.Operands.{no-tighter}
 
 -- a level that groups to the right, with all the room that there can be
@@ -58,7 +55,8 @@ module _ (text : List ℕ) (at : At) (k : at .token .kind ≡ kind.Opening) (d :
   bracket-refused u m h = ap (walk operand d u m) opening-is ∙ rw (lt-leb (suc d) bracketCeiling (omega arith))
 
   -- the walk goes on inside
-  pub bracket-walked : (u : List Flag) (m : ℕ) → d < bracketCeiling → walk operand d u m (ahead text (at .token)) ≡ walk operand (d + 1) u m (past (ahead text (at .token)))
+  pub bracket-walked : (u : List Flag) (m : ℕ) → d < bracketCeiling → walk operand d u m (ahead text (at .token)) ≡ walk operand (d + 1) u m
+      (past (ahead text (at .token)))
   unfolding walk within
   bracket-walked u m h = ap (walk operand d u m) opening-is ∙ rw (add-one, le-leb (suc d) bracketCeiling h)
 
@@ -70,39 +68,43 @@ module _ (text : List ℕ) (at : At) (k : at .token .kind ≡ kind.Opening) (d :
       let less : bracketCeiling - d ≡ suc (bracketCeiling - (d + 1)) = omega arith in
       ap (operandsAt d u) opening-is ∙ ap (λ (n : ℕ). follow (inBrackets n u (past (ahead text (at .token)))) (λ g v us. closed g v us)) less
 
-  module _ (codes out : List ℕ) (inside : Part) (a : AdvancedSays text at 0 (answer.Found inside)) (h : d < bracketCeiling) where
+  module _ (codes out : List ℕ) (inside : At) (a : Advanced text at (at .signs) inside) (h : d < bracketCeiling) where
     -- what stands inside, said of the tokens past the bracket
     into : walk operand d (flagsIn text codes (at .flags)) (at .signs) (ahead text (at .token))
-        ≡ walk operand (d + 1) (flagsIn text codes (inside .at .flags)) (inside .at .signs) (ahead text (inside .at .token))
+        ≡ walk operand (d + 1) (flagsIn text codes (inside .flags)) (inside .signs) (ahead text (inside .token))
     into =
         bracket-walked (flagsIn text codes (at .flags)) (at .signs) h
-        ∙ ap (λ (n : ℕ). walk operand (d + 1) (flagsIn text codes n) (at .signs) (past (ahead text (at .token)))) (sym (a .0 .flags))
-        ∙ ap (λ (n : ℕ). walk operand (d + 1) (flagsIn text codes (inside .at .flags)) n (past (ahead text (at .token)))) (sym (a .1))
-        ∙ ap (walk operand (d + 1) (flagsIn text codes (inside .at .flags)) (inside .at .signs)) (a .0 .tokens)
+        ∙ ap (λ (n : ℕ). walk operand (d + 1) (flagsIn text codes n) (at .signs) (past (ahead text (at .token)))) (sym (a .flags))
+        ∙ ap (λ (n : ℕ). walk operand (d + 1) (flagsIn text codes (inside .flags)) n (past (ahead text (at .token)))) (sym (a .signs))
+        ∙ ap (walk operand (d + 1) (flagsIn text codes (inside .flags)) (inside .signs)) (a .tokens)
 
     -- a refusal inside is the bracket's
-    pub inside-refused : (f : Refusal) → walk operand (d + 1) (flagsIn text codes (inside .at .flags)) (inside .at .signs) (ahead text (inside .at .token)) ≡ refused (f .number) (f .place) →
+    pub inside-refused : (f : Refusal) → walk operand (d + 1) (flagsIn text codes (inside .flags)) (inside .signs)
+        (ahead text (inside .token)) ≡ refused (f .number) (f .place) →
         walk operand d (flagsIn text codes (at .flags)) (at .signs) (ahead text (at .token)) ≡ refused (f .number) (f .place)
     inside-refused f e = into ∙ e
 
-    pub inside-standing : Standing text codes at → Standing text codes (inside .at)
+    pub inside-standing : Standing text codes at → Standing text codes inside
     inside-standing st = record {
-      token = a .0 .token;
-      inText = subst (λ (n : ℕ). InText text codes n) (sym (a .0 .flags)) (st .inText);
-      codesRoom = st .codesRoom;
-      flags = omega (arith, a .0 .flags, st .flags);
-      signs = omega (arith, a .1, st .signs);
-      count = omega (arith, a .0 .count, a .1, st .count);
+      token = a .token;
+      inText = subst (λ (n : ℕ). InText text codes n) (sym (a .flags)) (st .inText);
+      table = st .table;
+      flags = omega (arith, a .flags, st .flags);
+      signs = omega (arith, a .signs, st .signs);
+      count = omega (arith, a .count, a .signs, st .count);
     }
 
-    module _ {part : Part} {codes′ out′ : List ℕ} (p : FoundPart (plain (sameOf (operandsAt (d + 1)))) (d + 1) 4 text (inside .at) codes out part codes′ out′) where
+    module _ {part : Part} {codes′ out′ : List ℕ} (p : FoundPart (plain (sameOf (operandsAt (d + 1)))) (d + 1) 4 text inside codes out part codes′ out′) where
       -- no closing bracket follows
-      pub never-closed : (f : Refusal) → ClosedSays text part (answer.Refused f) →
+      pub never-closed : (f : Refusal) → ((e : ℕ) (u : List Flag) (m : ℕ) → walk after (suc e) u m (ahead text (part .at .token)) ≡ refused
+          (f .number) (f .place)) →
           walk operand d (flagsIn text codes (at .flags)) (at .signs) (ahead text (at .token)) ≡ refused (f .number) (f .place)
-      never-closed f e = into ∙ p .reads .walked ∙ ap (λ (n : ℕ). walk after n (flagsIn text codes′ (part .at .flags)) (part .at .signs) (ahead text (part .at .token))) (add-one d) ∙ e d (flagsIn text codes′ (part .at .flags)) (part .at .signs)
+      never-closed f e = into ∙ p .reads .walked ∙ ap (λ (n : ℕ). walk after n (flagsIn text codes′ (part .at .flags)) (part .at .signs)
+          (ahead text (part .at .token))) (add-one d) ∙ e d (flagsIn text codes′ (part .at .flags)) (part .at .signs)
 
       -- the guard in brackets
-      pub bracket-found : (q : Part) → ClosedSays text part (answer.Found q) → FoundPart (plain (operandsAt d)) d 0 text at codes out q codes′ out′
+      pub bracket-found : (q : At) → Closed text (part .at) q →
+          FoundPart (plain (operandsAt d)) d 0 text at codes out (record { literal = part .literal; at = q }) codes′ out′
       unfolding follow
       bracket-found q c = record {
         guard = p .guard;
@@ -110,40 +112,36 @@ module _ (text : List ℕ) (at : At) (k : at .token .kind ≡ kind.Opening) (d :
           parsed = λ f i.
               bracket-parsed (flagsIn text codes (at .flags)) h
               ∙ ap (λ (x : Parsed). follow x (λ g v us. closed g v us))
-              (ap (λ (n : ℕ). sameOf (operandsAt (d + 1)) (flagsIn text codes n) (past (ahead text (at .token)))) (sym (a .0 .flags))
-              ∙ ap (sameOf (operandsAt (d + 1)) (flagsIn text codes (inside .at .flags))) (a .0 .tokens) ∙ p .reads .parsed f (omega (arith, a .1)))
-              ∙ c .4 (p .guard) (flagsIn text codes′ (part .at .flags))
-              ∙ ap (λ (n : ℕ). found (p .guard) (flagsIn text codes′ n) (ahead text (q .at .token))) (sym (c .0 .flags));
+              (ap (λ (n : ℕ). sameOf (operandsAt (d + 1)) (flagsIn text codes n) (past (ahead text (at .token)))) (sym (a .flags))
+              ∙ ap (sameOf (operandsAt (d + 1)) (flagsIn text codes (inside .flags))) (a .tokens) ∙ p .reads .parsed f (omega (arith, a .signs)))
+              ∙ c .parsed (p .guard) (flagsIn text codes′ (part .at .flags))
+              ∙ ap (λ (n : ℕ). found (p .guard) (flagsIn text codes′ n) (ahead text (q .token))) (sym (c .advanced .flags));
           walked =
               into ∙ p .reads .walked
               ∙ ap (λ (n : ℕ). walk after n (flagsIn text codes′ (part .at .flags)) (part .at .signs) (ahead text (part .at .token))) (add-one d)
-              ∙ c .3 d (flagsIn text codes′ (part .at .flags)) (part .at .signs)
-              ∙ ap (λ (n : ℕ). walk after d (flagsIn text codes′ n) (part .at .signs) (ahead text (q .at .token))) (sym (c .0 .flags))
-              ∙ ap (λ (n : ℕ). walk after d (flagsIn text codes′ (q .at .flags)) n (ahead text (q .at .token))) (sym (c .1));
-          signs = omega (arith, c .1, p .reads .signs, a .1);
+              ∙ c .walked d (flagsIn text codes′ (part .at .flags)) (part .at .signs)
+              ∙ ap (λ (n : ℕ). walk after d (flagsIn text codes′ n) (part .at .signs) (ahead text (q .token))) (sym (c .advanced .flags))
+              ∙ ap (λ (n : ℕ). walk after d (flagsIn text codes′ (q .flags)) n (ahead text (q .token))) (sym (c .advanced .signs));
+          signs = omega (arith, c .advanced .signs, p .reads .signs, a .signs);
           stops = λ s b. absurd (no-tighter s b);
         };
         writes = record {
-          literal = c .2 ∙ p .writes .literal ∙ ap (λ (n : ℕ). literal n (p .guard)) (a .0 .count);
-          small = omega (arith, c .2, p .writes .small);
-          count = omega (arith, c .0 .count, p .writes .count, a .0 .count);
-          written = ap (λ (n : ℕ). take (3 * n) out′) (c .0 .count) ∙ p .writes .written ∙ ap (λ (n : ℕ). take (3 * n) out ++ numbers (triplets n (p .guard))) (a .0 .count);
+          literal = p .writes .literal ∙ ap (λ (n : ℕ). literal n (p .guard)) (a .count);
+          small = p .writes .small;
+          count = omega (arith, c .advanced .count, p .writes .count, a .count);
+          written = ap (λ (n : ℕ). take (3 * n) out′) (c .advanced .count) ∙ p .writes .written ∙ ap
+              (λ (n : ℕ). take (3 * n) out ++ numbers (triplets n (p .guard))) (a .count);
         };
         standing = record {
-          token = c .0 .token;
-          inText = subst (λ (n : ℕ). InText text codes′ n) (sym (c .0 .flags)) (p .standing .inText);
-          codesRoom = p .standing .codesRoom;
-          flags = omega (arith, c .0 .flags, p .standing .flags);
-          signs = omega (arith, c .1, p .standing .signs);
-          count = omega (arith, c .0 .count, c .1, p .standing .count);
+          token = c .advanced .token;
+          inText = subst (λ (n : ℕ). InText text codes′ n) (sym (c .advanced .flags)) (p .standing .inText);
+          table = p .standing .table;
+          flags = omega (arith, c .advanced .flags, p .standing .flags);
+          signs = omega (arith, c .advanced .signs, p .standing .signs);
+          count = omega (arith, c .advanced .count, c .advanced .signs, p .standing .count);
         };
-        later = omega (arith, a .0 .later, p .later, c .0 .later);
+        later = omega (arith, a .later, p .later, c .advanced .later);
       }
-
-      -- whichever token follows
-      pub bracket-says : (r : Operand) → ClosedSays text part r → LevelSays (plain (operandsAt d)) d 0 text at codes out r codes′ out′
-      bracket-says (answer.Found q) c = bracket-found q c
-      bracket-says (answer.Refused f) c = never-closed f c
 
 -- a literal is turned not at all by 0
 pub signed-not : (l : ℕ) → signed l 0 ≡ l
@@ -228,17 +226,17 @@ module _ (text : List ℕ) (at here : At) (odd : ℕ) (b : Bangs text at here od
   bang-walked d u m = ap (walk operand d u m) bang-is
 
   -- what follows is faulty
-  pub bangs-refused : (l : ℕ) (f : Refusal) → AdvancedSays text here l (answer.Refused f) → (d : ℕ) (u : List Flag) (m : ℕ) →
+  pub bangs-refused : (f : Refusal) → FaultyHere (past (ahead text (here .token))) f → (d : ℕ) (u : List Flag) (m : ℕ) →
       walk operand d u m (ahead text (at .token)) ≡ refused (f .number) (f .place)
-  bangs-refused l f a d u m = b .walked d u m ∙ bang-walked d u m ∙ a operand d u m
+  bangs-refused f a d u m = b .walked d u m ∙ bang-walked d u m ∙ a operand d u m
 
   -- one more
-  pub bangs-more : (l : ℕ) (p : Part) → AdvancedSays text here l (answer.Found p) → Bangs text at (p .at) (1 - odd)
+  pub bangs-more : (to : At) → Advanced text here (here .signs) to → Bangs text at to (1 - odd)
   unfolding literal triplets connectives
-  bangs-more l p a = record {
-    walked = λ d u m. b .walked d u m ∙ bang-walked d u m ∙ ap (walk operand d u m) (a .0 .tokens);
+  bangs-more to a = record {
+    walked = λ d u m. b .walked d u m ∙ bang-walked d u m ∙ ap (walk operand d u m) (a .tokens);
     parsed = λ inner u g v us e.
-        let r = b .parsed inner u (negated g) v us (bang-parsed inner u g v us (ap (operandOf inner u) (a .0 .tokens) ∙ e)) in (
+        let r = b .parsed inner u (negated g) v us (bang-parsed inner u g v us (ap (operandOf inner u) (a .tokens) ∙ e)) in (
           r .0,
           r .1,
           record {
@@ -248,15 +246,16 @@ module _ (text : List ℕ) (at here : At) (odd : ℕ) (b : Bangs text at here od
           },
         );
     parity = omega arith;
-    flags = a .0 .flags ∙ b .flags;
-    signs = a .1 ∙ b .signs;
-    count = a .0 .count ∙ b .count;
-    token = a .0 .token;
-    later = omega (arith, b .later, a .0 .later);
+    flags = a .flags ∙ b .flags;
+    signs = a .signs ∙ b .signs;
+    count = a .count ∙ b .count;
+    token = a .token;
+    later = omega (arith, b .later, a .later);
   }
 
 module _ (text : List ℕ) (at here : At) (odd : ℕ) (b : Bangs text at here odd) (codes : List ℕ) where
-  here-walked : (d : ℕ) → walk operand d (flagsIn text codes (at .flags)) (at .signs) (ahead text (at .token)) ≡ walk operand d (flagsIn text codes (here .flags)) (here .signs) (ahead text (here .token))
+  here-walked : (d : ℕ) → walk operand d (flagsIn text codes (at .flags)) (at .signs) (ahead text (at .token)) ≡ walk operand d
+      (flagsIn text codes (here .flags)) (here .signs) (ahead text (here .token))
   here-walked d =
       b .walked d (flagsIn text codes (at .flags)) (at .signs)
       ∙ ap (λ (n : ℕ). walk operand d (flagsIn text codes n) (at .signs) (ahead text (here .token))) (sym (b .flags))
@@ -266,14 +265,15 @@ module _ (text : List ℕ) (at here : At) (odd : ℕ) (b : Bangs text at here od
   here-standing st = record {
     token = b .token;
     inText = subst (λ (n : ℕ). InText text codes n) (sym (b .flags)) (st .inText);
-    codesRoom = st .codesRoom;
+    table = st .table;
     flags = omega (arith, b .flags, st .flags);
     signs = omega (arith, b .signs, st .signs);
     count = omega (arith, b .count, b .signs, st .count);
   }
 
   -- the operand behind them is refused
-  pub behind-refused : (d : ℕ) (f : Refusal) → walk operand d (flagsIn text codes (here .flags)) (here .signs) (ahead text (here .token)) ≡ refused (f .number) (f .place) →
+  pub behind-refused : (d : ℕ) (f : Refusal) → walk operand d (flagsIn text codes (here .flags)) (here .signs) (ahead text (here .token)) ≡ refused
+      (f .number) (f .place) →
       walk operand d (flagsIn text codes (at .flags)) (at .signs) (ahead text (at .token)) ≡ refused (f .number) (f .place)
   behind-refused d f e = here-walked d ∙ e
 
@@ -281,7 +281,8 @@ module _ (text : List ℕ) (at here : At) (odd : ℕ) (b : Bangs text at here od
   pub behind-found : (d : ℕ) (out : List ℕ) {p : Part} {codes′ out′ : List ℕ} → FoundPart (plain (operandsAt d)) d 0 text here codes out p codes′ out′ →
       FoundPart (plain (operandsAt d)) d 0 text at codes out (record { literal = signed (p .literal) odd; at = p .at }) codes′ out′
   behind-found d out {p} {codes′} {out′} r =
-      let t = b .parsed (inBrackets (bracketCeiling - d)) (flagsIn text codes (here .flags)) (r .guard) (flagsIn text codes′ (p .at .flags)) (ahead text (p .at .token)) (r .reads .parsed connectiveCeiling (omega arith)) in
+      let t = b .parsed (inBrackets (bracketCeiling - d)) (flagsIn text codes (here .flags)) (r .guard) (flagsIn text codes′ (p .at .flags))
+      (ahead text (p .at .token)) (r .reads .parsed connectiveCeiling (omega arith)) in
       record {
         guard = t .0;
         reads = record {
@@ -294,7 +295,8 @@ module _ (text : List ℕ) (at here : At) (odd : ℕ) (b : Bangs text at here od
           literal = ap (λ (l : ℕ). signed l odd) (r .writes .literal ∙ ap (λ (n : ℕ). literal n (r .guard)) (b .count)) ∙ sym (t .2 .literally (at .count));
           small = signed-small odd (p .literal) (b .parity) (r .writes .small);
           count = omega (arith, r .writes .count, b .count, t .2 .plainly);
-          written = r .writes .written ∙ ap (λ (n : ℕ). take (3 * n) out ++ numbers (triplets n (r .guard))) (b .count) ∙ ap (λ (x : List Triplet). take (3 * at .count) out ++ numbers x) (sym (t .2 .nothing (at .count)));
+          written = r .writes .written ∙ ap (λ (n : ℕ). take (3 * n) out ++ numbers (triplets n (r .guard))) (b .count) ∙ ap
+              (λ (x : List Triplet). take (3 * at .count) out ++ numbers x) (sym (t .2 .nothing (at .count)));
         };
         standing = r .standing;
         later = omega (arith, b .later, r .later);

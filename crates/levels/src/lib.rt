@@ -1,225 +1,291 @@
 // The reader: one function for each level of the notation, from loosest to tightest. They call each other in a cycle, measured by the
 // text that is left.
 use notation::ceilings::BRACKETS;
-use notation::refusal::Refusal;
-use notation::tokens::Connective;
-use notation::tokens::Kind;
+use notation::ceilings::CODES_ROOM;
+use notation::ceilings::CONNECTIVES;
+use notation::ceilings::TRIPLETS_ROOM;
+use notation::place::Connective;
+use notation::place::KIND;
+use notation::place::Kind;
+use notation::place::PLACE;
+use notation::place::Step;
+use notation::place::WAITING;
+use notation::place::kind_of;
 use notation::triplets::flipped;
-use operands::At;
-use operands::Operand;
-use operands::Part;
+use operands::Answer;
 use operands::advanced;
 use operands::bang_follows;
 use operands::closed;
 use operands::code_operand;
+use operands::join_last;
 use operands::joined;
-use operands::misplaced;
 use operands::past_sign;
+use operands::refused;
+use operands::set_aside;
 use operands::sign_follows;
 use operands::truth_operand;
 ghost use mathlib.Core.Path.{_≡_};
 ghost use mathlib.Core.Bool.{false};
-ghost use Rattle.notation.specs.Tokens.{implies};
-ghost use Rattle.notation.specs.Grammar.{toTheRight, sameOf, orOf, andOf};
-ghost use Rattle.operands.specs.contracts.Levels.{LevelAsks, LevelSays, plain, operandsAt, bangs};
+ghost use Prim.Native.Nat.{_+_};
+ghost use lib.ListN.{getD};
+ghost use Rattle.notation.specs.Tokens.{and, or, implies, same};
+ghost use Rattle.notation.specs.contracts.Cut.{signOf};
+ghost use Rattle.notation.specs.Grammar.{leftLevel, rightLevel};
+ghost use Rattle.notation.specs.contracts.Place.{kindOf};
+ghost use Rattle.operands.specs.contracts.Steps.{bangs};
+ghost use Rattle.levels.specs.contracts.Levels.{plain, operandsAt, belowOf, tighter, Asks, Says, Begun, ChainSays};
 
 // A guard: operands joined by `=`, which groups to the left.
-pub fn same_level(
+pub fn same(
     text: &[u8],
-    at: At,
+    at: &mut [usize; PLACE],
     brackets: usize,
-    codes: &mut [usize],
-    out: &mut [u16],
-) -> Operand
-    requires { ⌜ LevelAsks (now text) at brackets (now codes) (now out) ⌝ }
-    ensures { λ r. ⌜ LevelSays (plain (sameOf (operandsAt brackets))) brackets 4 (now (text .entry)) at (now (codes .entry)) (now (out .entry)) r (now (codes .exit)) (now (out .exit)) ⌝ }
+    codes: &mut [usize; CODES_ROOM],
+    out: &mut [u16; TRIPLETS_ROOM],
+    wait: &mut [u16; CONNECTIVES],
+) -> Answer
+    requires { ⌜ Asks (now text) (now at) brackets (now codes) (now out) (now wait) ⌝ }
+    ensures { λ r. ⌜ Says (plain (leftLevel same (belowOf same (operandsAt brackets)))) brackets 4
+        (now (text .entry)) (now (at .entry)) (now (codes .entry)) (now (out .entry)) (now (wait .entry)) r
+        (now (at .exit)) (now (codes .exit)) (now (out .exit)) (now (wait .exit)) ⌝ }
 {
-    let first = implies_level(text, at, brackets, codes, out);
-    let Operand::Found(part) = first else {
+    let first = implies(text, at, brackets, codes, out, wait);
+    let Answer::Found(left) = first else {
         return first;
     };
-    let mut left = part;
-    while sign_follows(left, Connective::Same) {
-        let moved = past_sign(text, left);
-        let Operand::Found(to) = moved else {
-            return moved;
-        };
-        let behind = to.at;
-        let next = implies_level(text, behind, brackets, codes, out);
-        let Operand::Found(right) = next else {
-            return next;
-        };
-        left = joined(out, Connective::Same, left.literal, right);
+    if !sign_follows(at, Connective::Same) {
+        return first;
     }
-    Operand::Found(left)
+    left_chain(text, at, brackets, codes, out, wait, Connective::Same, left)
 }
 
-// Operands joined by `>`, which groups to the right.
-fn implies_level(
+// Operands joined by `>`, which groups to the right: those before a sign wait, and are joined from the right when the chain ends.
+fn implies(
     text: &[u8],
-    at: At,
+    at: &mut [usize; PLACE],
     brackets: usize,
-    codes: &mut [usize],
-    out: &mut [u16],
-) -> Operand
-    requires { ⌜ LevelAsks (now text) at brackets (now codes) (now out) ⌝ }
-    ensures { λ r. ⌜ LevelSays (toTheRight implies (orOf (operandsAt brackets))) brackets 3 (now (text .entry)) at (now (codes .entry)) (now (out .entry)) r (now (codes .exit)) (now (out .exit)) ⌝ }
+    codes: &mut [usize; CODES_ROOM],
+    out: &mut [u16; TRIPLETS_ROOM],
+    wait: &mut [u16; CONNECTIVES],
+) -> Answer
+    requires { ⌜ Asks (now text) (now at) brackets (now codes) (now out) (now wait) ⌝ }
+    ensures { λ r. ⌜ Says (plain (rightLevel implies (belowOf implies (operandsAt brackets)))) brackets 3
+        (now (text .entry)) (now (at .entry)) (now (codes .entry)) (now (out .entry)) (now (wait .entry)) r
+        (now (at .exit)) (now (codes .exit)) (now (out .exit)) (now (wait .exit)) ⌝ }
 {
-    let first = or_level(text, at, brackets, codes, out);
-    let Operand::Found(left) = first else {
+    let base = at[WAITING];
+    let first = either(text, at, brackets, codes, out, wait);
+    let Answer::Found(left) = first else {
         return first;
     };
-    if !sign_follows(left, Connective::Implies) {
-        return first;
+    let mut last = left;
+    while sign_follows(at, Connective::Implies) {
+        let moved = past_sign(text, at);
+        let Step::Taken = moved else {
+            return Answer::Refused;
+        };
+        set_aside(at, wait, last);
+        let next = either(text, at, brackets, codes, out, wait);
+        let Answer::Found(right) = next else {
+            return next;
+        };
+        last = right;
     }
-    let moved = past_sign(text, left);
-    let Operand::Found(to) = moved else {
-        return moved;
-    };
-    let behind = to.at;
-    let next = implies_level(text, behind, brackets, codes, out);
-    let Operand::Found(right) = next else {
-        return next;
-    };
-    Operand::Found(joined(out, Connective::Implies, left.literal, right))
+    while base < at[WAITING] {
+        last = join_last(out, at, wait, last);
+    }
+    Answer::Found(last)
 }
 
 // Operands joined by `|`, which groups to the left.
-fn or_level(text: &[u8], at: At, brackets: usize, codes: &mut [usize], out: &mut [u16]) -> Operand
-    requires { ⌜ LevelAsks (now text) at brackets (now codes) (now out) ⌝ }
-    ensures { λ r. ⌜ LevelSays (plain (orOf (operandsAt brackets))) brackets 2 (now (text .entry)) at (now (codes .entry)) (now (out .entry)) r (now (codes .exit)) (now (out .exit)) ⌝ }
+fn either(
+    text: &[u8],
+    at: &mut [usize; PLACE],
+    brackets: usize,
+    codes: &mut [usize; CODES_ROOM],
+    out: &mut [u16; TRIPLETS_ROOM],
+    wait: &mut [u16; CONNECTIVES],
+) -> Answer
+    requires { ⌜ Asks (now text) (now at) brackets (now codes) (now out) (now wait) ⌝ }
+    ensures { λ r. ⌜ Says (plain (leftLevel or (belowOf or (operandsAt brackets)))) brackets 2
+        (now (text .entry)) (now (at .entry)) (now (codes .entry)) (now (out .entry)) (now (wait .entry)) r
+        (now (at .exit)) (now (codes .exit)) (now (out .exit)) (now (wait .exit)) ⌝ }
 {
-    let first = and_level(text, at, brackets, codes, out);
-    let Operand::Found(part) = first else {
+    let first = both(text, at, brackets, codes, out, wait);
+    let Answer::Found(left) = first else {
         return first;
     };
-    let mut left = part;
-    while sign_follows(left, Connective::Or) {
-        let moved = past_sign(text, left);
-        let Operand::Found(to) = moved else {
-            return moved;
-        };
-        let behind = to.at;
-        let next = and_level(text, behind, brackets, codes, out);
-        let Operand::Found(right) = next else {
-            return next;
-        };
-        left = joined(out, Connective::Or, left.literal, right);
+    if !sign_follows(at, Connective::Or) {
+        return first;
     }
-    Operand::Found(left)
+    left_chain(text, at, brackets, codes, out, wait, Connective::Or, left)
 }
 
 // Operands joined by `&`, which groups to the left.
-fn and_level(text: &[u8], at: At, brackets: usize, codes: &mut [usize], out: &mut [u16]) -> Operand
-    requires { ⌜ LevelAsks (now text) at brackets (now codes) (now out) ⌝ }
-    ensures { λ r. ⌜ LevelSays (plain (andOf (operandsAt brackets))) brackets 1 (now (text .entry)) at (now (codes .entry)) (now (out .entry)) r (now (codes .exit)) (now (out .exit)) ⌝ }
+fn both(
+    text: &[u8],
+    at: &mut [usize; PLACE],
+    brackets: usize,
+    codes: &mut [usize; CODES_ROOM],
+    out: &mut [u16; TRIPLETS_ROOM],
+    wait: &mut [u16; CONNECTIVES],
+) -> Answer
+    requires { ⌜ Asks (now text) (now at) brackets (now codes) (now out) (now wait) ⌝ }
+    ensures { λ r. ⌜ Says (plain (leftLevel and (belowOf and (operandsAt brackets)))) brackets 1
+        (now (text .entry)) (now (at .entry)) (now (codes .entry)) (now (out .entry)) (now (wait .entry)) r
+        (now (at .exit)) (now (codes .exit)) (now (out .exit)) (now (wait .exit)) ⌝ }
 {
-    let first = operand_level(text, at, brackets, codes, out);
-    let Operand::Found(part) = first else {
+    let first = operand(text, at, brackets, codes, out, wait);
+    let Answer::Found(left) = first else {
         return first;
     };
-    let mut left = part;
-    while sign_follows(left, Connective::And) {
-        let moved = past_sign(text, left);
-        let Operand::Found(to) = moved else {
-            return moved;
+    if !sign_follows(at, Connective::And) {
+        return first;
+    }
+    left_chain(text, at, brackets, codes, out, wait, Connective::And, left)
+}
+
+// The level whose operands a sign joins.
+fn below(
+    text: &[u8],
+    at: &mut [usize; PLACE],
+    brackets: usize,
+    codes: &mut [usize; CODES_ROOM],
+    out: &mut [u16; TRIPLETS_ROOM],
+    wait: &mut [u16; CONNECTIVES],
+    sign: Connective,
+) -> Answer
+    requires { ⌜ Asks (now text) (now at) brackets (now codes) (now out) (now wait) ⌝ }
+    ensures { λ r. ⌜ Says (plain (belowOf (signOf sign) (operandsAt brackets))) brackets (tighter (signOf sign))
+        (now (text .entry)) (now (at .entry)) (now (codes .entry)) (now (out .entry)) (now (wait .entry)) r
+        (now (at .exit)) (now (codes .exit)) (now (out .exit)) (now (wait .exit)) ⌝ }
+{
+    match sign {
+        Connective::And => operand(text, at, brackets, codes, out, wait),
+        Connective::Or => both(text, at, brackets, codes, out, wait),
+        Connective::Implies => either(text, at, brackets, codes, out, wait),
+        Connective::Same => implies(text, at, brackets, codes, out, wait),
+    }
+}
+
+// The further operands of a chain that a sign joins to the left.
+fn left_chain(
+    text: &[u8],
+    at: &mut [usize; PLACE],
+    brackets: usize,
+    codes: &mut [usize; CODES_ROOM],
+    out: &mut [u16; TRIPLETS_ROOM],
+    wait: &mut [u16; CONNECTIVES],
+    sign: Connective,
+    first: u16,
+) -> Answer
+    requires { ⌜ Begun (signOf sign) brackets (now text) first (now at) (now codes) (now out) (now wait) ⌝ }
+    ensures { λ r. ⌜ ChainSays (signOf sign) brackets
+        (now (text .entry)) first (now (at .entry)) (now (codes .entry)) (now (out .entry)) (now (wait .entry)) r
+        (now (at .exit)) (now (codes .exit)) (now (out .exit)) (now (wait .exit)) ⌝ }
+{
+    let mut left = first;
+    while sign_follows(at, sign) {
+        let moved = past_sign(text, at);
+        let Step::Taken = moved else {
+            return Answer::Refused;
         };
-        let behind = to.at;
-        let next = operand_level(text, behind, brackets, codes, out);
-        let Operand::Found(right) = next else {
+        let next = below(text, at, brackets, codes, out, wait, sign);
+        let Answer::Found(right) = next else {
             return next;
         };
-        left = joined(out, Connective::And, left.literal, right);
+        left = joined(out, at, sign, left, right);
     }
-    Operand::Found(left)
+    Answer::Found(left)
 }
 
 // An operand with any number of `!` before it.
-fn operand_level(
+fn operand(
     text: &[u8],
-    at: At,
+    at: &mut [usize; PLACE],
     brackets: usize,
-    codes: &mut [usize],
-    out: &mut [u16],
-) -> Operand
-    requires { ⌜ LevelAsks (now text) at brackets (now codes) (now out) ⌝ }
-    ensures { λ r. ⌜ LevelSays (plain (operandsAt brackets)) brackets 0 (now (text .entry)) at (now (codes .entry)) (now (out .entry)) r (now (codes .exit)) (now (out .exit)) ⌝ }
+    codes: &mut [usize; CODES_ROOM],
+    out: &mut [u16; TRIPLETS_ROOM],
+    wait: &mut [u16; CONNECTIVES],
+) -> Answer
+    requires { ⌜ Asks (now text) (now at) brackets (now codes) (now out) (now wait) ⌝ }
+    ensures { λ r. ⌜ Says (plain (operandsAt brackets)) brackets 0
+        (now (text .entry)) (now (at .entry)) (now (codes .entry)) (now (out .entry)) (now (wait .entry)) r
+        (now (at .exit)) (now (codes .exit)) (now (out .exit)) (now (wait .exit)) ⌝ }
 {
-    let mut here = at;
     let mut odd: u16 = 0;
-    while bang_follows(here) {
-        let moved = advanced(text, 0, here);
-        let Operand::Found(to) = moved else {
-            return moved;
+    let mut bang = bang_follows(at);
+    while bang {
+        let moved = advanced(text, at);
+        let Step::Taken = moved else {
+            return Answer::Refused;
         };
-        let behind = to.at;
-        here = behind;
         odd = 1 - odd;
+        bang = bang_follows(at);
     }
-    let plain = plain_level(text, here, brackets, codes, out);
-    let Operand::Found(part) = plain else {
+    let plain = plain(text, at, brackets, codes, out, wait);
+    let Answer::Found(literal) = plain else {
         return plain;
     };
-    let after = part.at;
-    Operand::Found(Part {
-        literal: flipped(part.literal, odd),
-        at: after,
-    })
+    Answer::Found(flipped(literal, odd))
 }
 
 // An operand with no `!` before it: a code, `#0` or `#1`, or a guard in brackets.
-fn plain_level(
+fn plain(
     text: &[u8],
-    at: At,
+    at: &mut [usize; PLACE],
     brackets: usize,
-    codes: &mut [usize],
-    out: &mut [u16],
-) -> Operand
-    requires { ⌜ LevelAsks (now text) at brackets (now codes) (now out) ⌝ }
-    requires { ⌜ bangs (at .token .kind) ≡ false ⌝ }
-    ensures { λ r. ⌜ LevelSays (plain (operandsAt brackets)) brackets 0 (now (text .entry)) at (now (codes .entry)) (now (out .entry)) r (now (codes .exit)) (now (out .exit)) ⌝ }
+    codes: &mut [usize; CODES_ROOM],
+    out: &mut [u16; TRIPLETS_ROOM],
+    wait: &mut [u16; CONNECTIVES],
+) -> Answer
+    requires { ⌜ Asks (now text) (now at) brackets (now codes) (now out) (now wait) ⌝ }
+    requires { ⌜ bangs (kindOf (getD (now at) 0 0)) ≡ false ⌝ }
+    ensures { λ r. ⌜ Says (plain (operandsAt brackets)) brackets 0
+        (now (text .entry)) (now (at .entry)) (now (codes .entry)) (now (out .entry)) (now (wait .entry)) r
+        (now (at .exit)) (now (codes .exit)) (now (out .exit)) (now (wait .exit)) ⌝ }
 {
-    let token = at.token;
-    let start = token.start;
-    let kind = token.kind;
+    let kind = kind_of(at[KIND]);
     match kind {
         Kind::Code => code_operand(text, at, codes),
-        Kind::Truth(truth) => truth_operand(text, at, codes, truth),
-        Kind::Opening => bracket_level(text, at, brackets, codes, out),
-        Kind::End => misplaced(start),
-        Kind::Bang => misplaced(start),
-        Kind::Sign(_) => misplaced(start),
-        Kind::Closing => misplaced(start),
+        Kind::Truth(truth) => truth_operand(text, at, truth),
+        Kind::Opening => bracket(text, at, brackets, codes, out, wait),
+        Kind::End => refused(at, 5),
+        Kind::Bang => refused(at, 5),
+        Kind::Sign(_) => refused(at, 5),
+        Kind::Closing => refused(at, 5),
     }
 }
 
 // A guard in brackets, which is an operand again.
-fn bracket_level(
+fn bracket(
     text: &[u8],
-    at: At,
+    at: &mut [usize; PLACE],
     brackets: usize,
-    codes: &mut [usize],
-    out: &mut [u16],
-) -> Operand
-    requires { ⌜ LevelAsks (now text) at brackets (now codes) (now out) ⌝ }
-    requires { ⌜ at .token .kind ≡ Kind.Opening ⌝ }
-    ensures { λ r. ⌜ LevelSays (plain (operandsAt brackets)) brackets 0 (now (text .entry)) at (now (codes .entry)) (now (out .entry)) r (now (codes .exit)) (now (out .exit)) ⌝ }
+    codes: &mut [usize; CODES_ROOM],
+    out: &mut [u16; TRIPLETS_ROOM],
+    wait: &mut [u16; CONNECTIVES],
+) -> Answer
+    requires { ⌜ Asks (now text) (now at) brackets (now codes) (now out) (now wait) ⌝ }
+    requires { ⌜ kindOf (getD (now at) 0 0) ≡ Kind.Opening ⌝ }
+    ensures { λ r. ⌜ Says (plain (operandsAt brackets)) brackets 0
+        (now (text .entry)) (now (at .entry)) (now (codes .entry)) (now (out .entry)) (now (wait .entry)) r
+        (now (at .exit)) (now (codes .exit)) (now (out .exit)) (now (wait .exit)) ⌝ }
 {
     if BRACKETS <= brackets {
-        let token = at.token;
-        return Operand::Refused(Refusal {
-            number: 6,
-            place: token.start,
-        });
+        return refused(at, 6);
     }
-    let moved = advanced(text, 0, at);
-    let Operand::Found(inside) = moved else {
-        return moved;
+    let moved = advanced(text, at);
+    let Step::Taken = moved else {
+        return Answer::Refused;
     };
-    let behind = inside.at;
-    let inner = same_level(text, behind, brackets + 1, codes, out);
-    let Operand::Found(part) = inner else {
+    let inner = same(text, at, brackets + 1, codes, out, wait);
+    let Answer::Found(literal) = inner else {
         return inner;
     };
-    closed(text, part)
+    let shut = closed(text, at);
+    let Step::Taken = shut else {
+        return Answer::Refused;
+    };
+    Answer::Found(literal)
 }

@@ -1,4 +1,5 @@
 pub mod Cut
 pub mod Codes
 pub mod Shape
+pub mod Place
 pub mod Writing

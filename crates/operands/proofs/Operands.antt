@@ -3,8 +3,8 @@ use Prim.Native.Nat.{ℕ, suc, _+_, _*_, _≤_, _<_}
 use native.Mathlib.Omega.{arith}
 use mathlib.Core.Path.{_≡_, refl, sym, ap, subst, _∙_}
 use mathlib.Core.Bool.{Bool, true, false, true≢false}
-use mathlib.Core.List.{List, [], _∷_, _++_, append-nil}
-use lib.ListN.{length, take, length-append, length-set}
+use mathlib.Core.List.{List, [], _∷_, _++_}
+use lib.ListN.{length, getD, set, length-append, length-set}
 use lib.Dec.{leb}
 use borrow.Author.Tests.{le-leb, lt-leb}
 use Rattle.notation.specs.Ceilings.{flagCeiling}
@@ -13,17 +13,34 @@ use Rattle.ground.specs.Choice.{choose}
 use Rattle.notation.specs.Walk.{Flag, refused, walk, operand, after, within, known, seen}
 use Rattle.notation.specs.Guard.{Guard, flag, truth, connectives}
 use Rattle.notation.specs.Grammar.{Level, found, number, past, closed, operandOf}
-use Rattle.notation.specs.Triplets.{literal, triplets, numbers, literalCeiling}
+use Rattle.notation.specs.Triplets.{literal, triplets, literalCeiling}
 use Rattle.notation.specs.contracts.Cut.{part, aheadAs, ahead, ends}
-use Rattle.notation.specs.contracts.Codes.{flagsIn, flagAt, InText, PlaceOf, entered}
-use Rattle.operands.specs.contracts.Levels.{binding, joins, closes, Standing, AdvancedSays, ClosedSays, AtomSays}
-use Rattle.notation.specs.declared.tokens.Kind.{Kind}
-use Rattle.notation.specs.declared.tokens.Kind.the-variants as kind
-use Rattle.operands.specs.declared.At.{At}
-use Rattle.operands.specs.declared.Part.{Part}
-use Rattle.operands.specs.declared.Operand.{Operand}
-use Rattle.operands.specs.declared.Operand.the-variants as answer
+use Rattle.notation.specs.contracts.Codes.{flagsIn, flagAt, InText, Keyed, PlaceOf, entered}
+use Rattle.notation.specs.contracts.Place.{placeRoom, kindOf, tokenIn, RefusedAt}
+use Rattle.operands.specs.contracts.Steps.{
+  At,
+  binding,
+  joins,
+  closes,
+  place,
+  Standing,
+  Advanced,
+  AdvancedSays,
+  PastTokenSays,
+  Atom,
+  AtomSays,
+  RefusedSays,
+  ClosedSays,
+}
+use Rattle.notation.specs.declared.refusal.Refusal.{Refusal}
+use Rattle.notation.specs.declared.place.Kind.{Kind}
+use Rattle.notation.specs.declared.place.Kind.the-variants as kind
+use Rattle.notation.specs.declared.place.Step.{Step}
+use Rattle.notation.specs.declared.place.Step.the-variants as step
+use Rattle.operands.specs.declared.Answer.{Answer}
+use Rattle.operands.specs.declared.Answer.the-variants as answer
 use Rattle.notation.proofs.Coding.{known-number, flags-length, flags-entered, in-text-entered}
+use Rattle.notation.proofs.Placing.{eight, never-both}
 
 -- no sign binds tighter than `&`
 pub no-tighter : (s : Sign) → binding s ≤ 0 → ⊥
@@ -42,41 +59,87 @@ pub record OneToken (text : List ℕ) (at : At) (codes codes′ : List ℕ) (n :
   pub nothing : (c : ℕ) → triplets c g ≡ []
   pub literally : (c : ℕ) → l ≡ literal c g
   pub small : l ≤ literalCeiling
-  pub parsed : (inner : Level) → operandOf inner (flagsIn text codes (at .flags)) (ahead text (at .token)) ≡ found g (flagsIn text codes′ n) (past (ahead text (at .token)))
-  pub walked : (d : ℕ) → walk operand d (flagsIn text codes (at .flags)) (at .signs) (ahead text (at .token)) ≡ walk after d (flagsIn text codes′ n) (at .signs) (past (ahead text (at .token)))
+  pub parsed : (inner : Level) → operandOf inner (flagsIn text codes (at .flags)) (ahead text (at .token)) ≡ found g (flagsIn text codes′ n)
+      (past (ahead text (at .token)))
+  pub walked : (d : ℕ) → walk operand d (flagsIn text codes (at .flags)) (at .signs) (ahead text (at .token)) ≡ walk after d (flagsIn text codes′ n)
+      (at .signs) (past (ahead text (at .token)))
   pub standing : Standing text codes′ (withFlags at n)
 
--- such an operand, once the reader is past its token
-pub one-token : (text : List ℕ) (at : At) (codes codes′ : List ℕ) (n : ℕ) (g : Guard) (l : ℕ) → OneToken text at codes codes′ n g l →
-    (r : Operand) → AdvancedSays text (withFlags at n) l r → AtomSays text at codes r codes′
-unfolding numbers
-one-token text at codes codes′ n g l o (answer.Found p) a inner d out = record {
-  guard = g;
-  reads = record {
-    parsed = λ f _. o .parsed inner ∙ ap (λ (ts : Tokens). found g (flagsIn text codes′ n) ts) (a .0 .tokens) ∙ ap (λ (k : ℕ). found g (flagsIn text codes′ k) (ahead text (p .at .token))) (sym (a .0 .flags));
-    walked = o .walked d ∙ ap (λ (ts : Tokens). walk after d (flagsIn text codes′ n) (at .signs) ts) (a .0 .tokens)
-        ∙ ap (λ (k : ℕ). walk after d (flagsIn text codes′ k) (at .signs) (ahead text (p .at .token))) (sym (a .0 .flags))
-        ∙ ap (λ (k : ℕ). walk after d (flagsIn text codes′ (p .at .flags)) k (ahead text (p .at .token))) (sym (a .1));
-    signs = omega (arith, a .1, o .plainly);
-    stops = λ s h. absurd (no-tighter s h);
-  };
-  writes = record {
-    literal = a .2 ∙ o .literally (at .count);
-    small = omega (arith, a .2, o .small);
-    count = omega (arith, a .0 .count, o .plainly);
-    written = ap (λ (k : ℕ). take (3 * k) out) (a .0 .count) ∙ sym (append-nil (take (3 * at .count) out)) ∙ ap (λ (ts : _). take (3 * at .count) out ++ numbers ts) (sym (o .nothing (at .count)));
-  };
-  standing = record {
-    token = a .0 .token;
-    inText = subst (λ (k : ℕ). InText text codes′ k) (sym (a .0 .flags)) (o .standing .inText);
-    codesRoom = o .standing .codesRoom;
-    flags = omega (arith, a .0 .flags, o .standing .flags);
-    signs = omega (arith, a .1, o .standing .signs);
-    count = omega (arith, a .0 .count, a .1, o .standing .count);
-  };
-  later = a .0 .later;
+-- an answer is not both
+pub never-answer : {A : Type 0} (l : ℕ) (r : Answer) → r ≡ answer.Found l → r ≡ answer.Refused → A
+never-answer l r e f = let z : _≡_ {A = ℕ} 0 1 = cc in absurd (omega arith)
+
+module _ {text : List ℕ} {at : At} {codes codes′ : List ℕ} {n : ℕ} {g : Guard} {l : ℕ} (o : OneToken text at codes codes′ n g l) where
+  -- such an operand, once the reader is past its token
+  atom-found : (to : At) → Advanced text (withFlags at n) (at .signs) to → Atom text at codes l to codes′
+  atom-found to a = record {
+    guard = g;
+    plainly = o .plainly;
+    nothing = o .nothing;
+    literally = o .literally;
+    small = o .small;
+    parsed = λ inner.
+        o .parsed inner ∙ ap (λ (ts : Tokens). found g (flagsIn text codes′ n) ts) (a .tokens)
+        ∙ ap (λ (k : ℕ). found g (flagsIn text codes′ k) (ahead text (to .token))) (sym (a .flags));
+    walked = λ d.
+        o .walked d ∙ ap (λ (ts : Tokens). walk after d (flagsIn text codes′ n) (at .signs) ts) (a .tokens)
+        ∙ ap (λ (k : ℕ). walk after d (flagsIn text codes′ k) (at .signs) (ahead text (to .token))) (sym (a .flags))
+        ∙ ap (λ (k : ℕ). walk after d (flagsIn text codes′ (to .flags)) k (ahead text (to .token))) (sym (a .signs));
+    signs = a .signs;
+    count = a .count;
+    standing = record {
+      token = a .token;
+      inText = subst (λ (k : ℕ). InText text codes′ k) (sym (a .flags)) (o .standing .inText);
+      table = o .standing .table;
+      flags = omega (arith, a .flags, o .standing .flags);
+      signs = omega (arith, a .signs, o .standing .signs);
+      count = omega (arith, a .count, a .signs, o .standing .count);
+    };
+    later = a .later;
+  }
+
+-- the reader stands at p₁ with n flags, else as at p
+pub record FlagsStored (n : ℕ) (p p₁ : List ℕ) : Type 0 where
+  pub stands : place p₁ ≡ withFlags (place p) n
+  pub waits : getD p₁ 7 0 ≡ getD p 7 0
+  pub room : length p₁ ≡ placeRoom
+
+pub flags-stored : (n : ℕ) (p : List ℕ) → length p ≡ placeRoom → FlagsStored n p (set p 3 n)
+flags-stored n p l = eight (λ q. FlagsStored n q (set q 3 n)) (λ a b c d e f g h. record { stands = refl; waits = refl; room = refl }) p l
+
+pub flags-as : (p : List ℕ) → length p ≡ placeRoom → FlagsStored (getD p 3 0) p p
+flags-as p l = record { stands = refl; waits = refl; room = l }
+
+-- the operand of one token, from where its token was passed
+pub atom-says : {text p : List ℕ} {codes codes′ : List ℕ} {n : ℕ} {g : Guard} {l : ℕ} → OneToken text (place p) codes codes′ n g l →
+    {p₁ p′ : List ℕ} {r : Answer} → FlagsStored n p p₁ → PastTokenSays text p₁ l r p′ → AtomSays text p codes r p′ codes′
+atom-says {text} {p} {codes} {codes′} {n} {g} {l} o {p₁} {p′} {r} f a = record {
+  found = λ m e.
+      let q = a .found m e in
+      subst (λ (k : ℕ). Atom text (place p) codes k (place p′) codes′) (sym (q .1))
+      (atom-found o (place p′)
+      (subst (λ (x : At). Advanced text x (getD p 4 0) (place p′)) (f .stands)
+      (subst (λ (k : ℕ). Advanced text (place p₁) k (place p′)) (ap (λ (x : At). x .signs) (f .stands)) (q .0))));
+  refused = λ e d.
+      o .walked d
+      ∙ ap (λ (x : At). walk after d (flagsIn text codes′ n) (getD p 4 0) (past (ahead text (x .token)))) (sym (f .stands))
+      ∙ a .refused e after d (flagsIn text codes′ n) (getD p 4 0);
+  kept = record { waits = a .kept .waits ∙ f .waits; room = a .kept .room };
 }
-one-token text at codes codes′ n g l o (answer.Refused f) a inner d out = o .walked d ∙ a after d (flagsIn text codes′ n) (at .signs)
+
+-- the token after the one of a literal
+pub past-token-found : {text p p′ : List ℕ} {l : ℕ} {r : Step} → AdvancedSays text p r p′ → r ≡ step.Taken → PastTokenSays text p l (answer.Found l) p′
+past-token-found {text} {p} {p′} {l} {r} a e = record {
+  found = λ m h. (a .taken e, same-found m h);
+  refused = λ h. never-answer l (answer.Found l) refl h;
+  kept = a .kept;
+}
+  where
+    same-found : (m : ℕ) → answer.Found l ≡ answer.Found m → m ≡ l
+    same-found m h = cc
+
+pub past-token-refused : {text p p′ : List ℕ} {l : ℕ} {r : Step} → AdvancedSays text p r p′ → r ≡ step.Refused → PastTokenSays text p l answer.Refused p′
+past-token-refused a e = record { found = λ m h. never-answer m answer.Refused h refl; refused = λ h. a .refused e; kept = a .kept }
 
 -- the token ahead, told by its kind
 ahead-truth : (k : Kind) (text : List ℕ) (p e : ℕ) (b : Bool) → k ≡ kind.Truth b → aheadAs k text p e ≡ token-at p (hash b) (past (aheadAs k text p e))
@@ -93,7 +156,8 @@ literal-truth true c = refl
 literal-truth false c = refl
 
 -- `#0` or `#1` is an operand
-pub truth-token : (text : List ℕ) (at : At) (codes : List ℕ) (b : Bool) (l : ℕ) → Standing text codes at → at .token .kind ≡ kind.Truth b → l ≡ choose b 0 1 → l ≤ 1 →
+pub truth-token : (text : List ℕ) (at : At) (codes : List ℕ) (b : Bool) (l : ℕ) → Standing text codes at → at .token .kind ≡ kind.Truth b →
+    l ≡ choose b 0 1 → l ≤ 1 →
     OneToken text at codes codes (at .flags) (truth b) l
 unfolding operandOf walk connectives triplets
 truth-token text at codes b l st k e h = record {
@@ -118,13 +182,15 @@ module _ (text : List ℕ) (at : At) (codes : List ℕ) (st : Standing text code
   ahead-is = ahead-code (at .token .kind) text (at .token .start) (at .token .next) k
 
   -- the grammar at a code
-  code-parsed : (inner : Level) → operandOf inner flags (ahead text (at .token)) ≡ found (flag (number name flags)) (seen (at .token .start) name flags) (past (ahead text (at .token)))
+  code-parsed : (inner : Level) → operandOf inner flags (ahead text (at .token)) ≡ found (flag (number name flags))
+      (seen (at .token .start) name flags) (past (ahead text (at .token)))
   unfolding operandOf
   code-parsed inner = ap (operandOf inner flags) ahead-is
 
   -- the walk at a code
   code-walked : (d : ℕ) → walk operand d flags (at .signs) (ahead text (at .token))
-      ≡ within (length (seen (at .token .start) name flags)) flagCeiling 7 (at .token .start) (walk after d (seen (at .token .start) name flags) (at .signs) (past (ahead text (at .token))))
+      ≡ within (length (seen (at .token .start) name flags)) flagCeiling 7 (at .token .start)
+      (walk after d (seen (at .token .start) name flags) (at .signs) (past (ahead text (at .token))))
   unfolding walk
   code-walked d = ap (walk operand d flags (at .signs)) ahead-is
 
@@ -167,13 +233,11 @@ module _ (text : List ℕ) (at : At) (codes : List ℕ) (st : Standing text code
     longer h = ap length (new-seen h) ∙ length-append flags (flagAt text (at .token .start) (at .token .next) ∷ []) ∙ rw (flags-length text codes (at .flags))
 
     -- a code that is new is an operand too, and is entered into the table
-    pub new-token : at .flags ≤ r → at .flags < flagCeiling → (l : ℕ) → l ≡ 2 * (r + 1) →
-        OneToken text at codes (entered codes (at .flags) (at .token .start) (at .token .next)) (at .flags + 1) (flag (r + 1)) l
+    pub new-token : at .flags ≤ r → at .flags < flagCeiling → (l : ℕ) → l ≡ 2 * (r + 1) → (n : ℕ) → Keyed text (at .token .start) (at .token .next) n →
+        OneToken text at codes (entered codes (at .flags) (at .token .start) (at .token .next) n) (at .flags + 1) (flag (r + 1)) l
     unfolding connectives triplets literal within flags
-    new-token h i l e =
-        let room : 2 * at .flags + 2 ≤ length codes = omega (arith, st .codesRoom) in
-        let moves : at .token .start < at .token .next = st .token .moves (ap ends k) in
-        let u′ = new-seen h ∙ sym (flags-entered text codes (at .flags) (at .token .start) (at .token .next) room) in
+    new-token h i l e n key =
+        let u′ = new-seen h ∙ sym (flags-entered text codes (at .flags) (at .token .start) (at .token .next) n (st .table) i) in
         record {
           plainly = refl;
           nothing = λ c. refl;
@@ -183,8 +247,8 @@ module _ (text : List ℕ) (at : At) (codes : List ℕ) (st : Standing text code
           walked = λ d. code-walked d ∙ rw (longer h, le-leb (at .flags + 1) flagCeiling (omega arith), u′);
           standing = record {
             token = st .token;
-            inText = in-text-entered text codes (at .flags) (at .token .start) (at .token .next) room (st .inText) (omega arith) (st .token .inside);
-            codesRoom = simp length-set (st .codesRoom);
+            inText = in-text-entered text codes (at .flags) (at .token .start) (at .token .next) n (st .table) i (st .inText) key;
+            table = simp length-set (st .table);
             flags = omega arith;
             signs = st .signs;
             count = st .count;
@@ -196,6 +260,16 @@ module _ (text : List ℕ) (at : At) (codes : List ℕ) (st : Standing text code
         walk operand d (flagsIn text codes (at .flags)) (at .signs) (ahead text (at .token)) ≡ refused 7 (at .token .start)
     unfolding within flags
     too-many h i d = code-walked d ∙ rw (longer h, lt-leb (at .flags + 1) flagCeiling (omega arith))
+
+-- a 25th flag
+pub too-many-says : {text p codes p′ : List ℕ} {r : Answer} →
+    ((d : ℕ) → walk operand d (flagsIn text codes (getD p 3 0)) (getD p 4 0) (ahead text (tokenIn p)) ≡ refused 7 (getD p 1 0)) →
+    RefusedSays 7 p r p′ → AtomSays text p codes r p′ codes
+too-many-says {text} {p} {codes} {p′} {r} h c = record {
+  found = λ l e. never-answer l r e (c .refused);
+  refused = λ e d. h d ∙ ap (λ (n : ℕ). refused n (getD p 1 0)) (sym (c .number)) ∙ ap (refused (getD p′ 6 0)) (sym (c .start));
+  kept = c .kept;
+}
 
 -- at a closing bracket the guard in brackets is an operand
 closing-walked : (k : Kind) (text : List ℕ) (p e d : ℕ) (u : List Flag) (m : ℕ) → closes k ≡ true →
@@ -241,18 +315,27 @@ closing-on (kind.Sign c) e = refl
 closing-on kind.Opening e = refl
 closing-on kind.Closing e = refl
 
-pub closed-says : (text : List ℕ) (inner : Part) (r : Operand) → closes (inner .at .token .kind) ≡ true → AdvancedSays text (inner .at) (inner .literal) r → ClosedSays text inner r
-closed-says text inner (answer.Found p) k a =
-    let t = inner .at .token in (
-      a .0,
-      a .1,
-      a .2,
-      (λ d u m. closing-walked (t .kind) text (t .start) (t .next) d u m k ∙ ap (walk after d u m) (a .0 .tokens)),
-      (λ g u. closing-parsed (t .kind) text (t .start) (t .next) g u k ∙ ap (found g u) (a .0 .tokens)),
-    )
-closed-says text inner (answer.Refused f) k a =
-    let t = inner .at .token in
-    λ d u m. closing-walked (t .kind) text (t .start) (t .next) d u m k ∙ a after d u m
+module _ {text p p′ : List ℕ} {r : Step} where
+  pub closed-says : closes (kindOf (getD p 0 0)) ≡ true → AdvancedSays text p r p′ → ClosedSays text p r p′
+  closed-says k a = record {
+    taken = λ e.
+        let v = a .taken e in
+        record {
+          advanced = v;
+          walked = λ d u m. closing-walked (kindOf (getD p 0 0)) text (getD p 1 0) (getD p 2 0) d u m k ∙ ap (walk after d u m) (v .tokens);
+          parsed = λ g u. closing-parsed (kindOf (getD p 0 0)) text (getD p 1 0) (getD p 2 0) g u k ∙ ap (found g u) (v .tokens);
+        };
+    refused = λ e d u m. closing-walked (kindOf (getD p 0 0)) text (getD p 1 0) (getD p 2 0) d u m k ∙ a .refused e after d u m;
+    kept = a .kept;
+  }
+
+  pub closed-refused : joins (kindOf (getD p 0 0)) ≡ false → closes (kindOf (getD p 0 0)) ≡ false → RefusedAt 5 (getD p 1 0) p r p′ → ClosedSays text p r p′
+  closed-refused j k c = record {
+    taken = λ e. never-both r e (c .answer);
+    refused = λ e d u m.
+        no-closing (kindOf (getD p 0 0)) text (getD p 1 0) (getD p 2 0) d u m j k ∙ ap (λ (f : Refusal). refused (f .number) (f .place)) (sym (c .refusal));
+    kept = record { waits = c .behind .waits; room = c .behind .room };
+  }
 
 -- no operand starts with the end, a sign or a closing bracket
 abbrev pub opens : Kind → Bool
@@ -274,3 +357,12 @@ no-operand kind.Bang text p e d u m h = absurd (true≢false h)
 no-operand (kind.Sign c) text p e d u m h = refl
 no-operand kind.Opening text p e d u m h = absurd (true≢false h)
 no-operand kind.Closing text p e d u m h = refl
+
+-- refused at the token ahead
+pub refused-says : {n : ℕ} {p p′ : List ℕ} {s : Step} → RefusedAt n (getD p 1 0) p s p′ → RefusedSays n p answer.Refused p′
+refused-says c = record {
+  refused = refl;
+  number = ap (λ (f : Refusal). f .number) (c .refusal);
+  start = ap (λ (f : Refusal). f .place) (c .refusal);
+  kept = record { waits = c .behind .waits; room = c .behind .room };
+}

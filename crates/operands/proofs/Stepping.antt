@@ -4,23 +4,22 @@ use native.Mathlib.Numerals.{add-one}
 use native.Mathlib.Omega.{arith}
 use mathlib.Core.Path.{_≡_, refl, sym, ap, _∙_}
 use mathlib.Core.Bool.{true, false, true≢false}
-use mathlib.Core.List.{List}
+use mathlib.Core.List.{List, _∷_, []}
+use lib.ListN.{length, getD, set}
 use lib.Dec.{eqb}
 use borrow.Author.Tests.{le-leb, lt-leb}
 use Rattle.notation.specs.Ceilings.{connectiveCeiling}
-use Rattle.notation.specs.Tokens.{Token, Sign, same, implies, or, and, at}
+use Rattle.notation.specs.Tokens.{Sign, same, implies, or, and, tokensAt}
 use Rattle.notation.specs.Walk.{Flag, refused, walk, operand, after, within}
 use Rattle.notation.specs.Grammar.{sameSign, isSign, signNext, past}
-use Rattle.notation.specs.contracts.Cut.{tokensAt, aheadAs, ends, signOf, NextToken, FaultyHere}
-use Rattle.operands.specs.contracts.Levels.{binding, kindIs, joins, TokenFits, AdvancedSays, PastSignSays}
+use Rattle.notation.specs.contracts.Cut.{aheadAs, ahead, ends, signOf}
+use Rattle.notation.specs.contracts.Place.{placeRoom, kindOf, tokenIn, RefusedAt, CutSays}
+use Rattle.notation.proofs.Placing.{eight, never-both, agree, agrees, kind-test}
+use Rattle.operands.specs.contracts.Steps.{binding, signNumber, kindIs, joins, bangs, closes, TokenFits, AdvancedSays, PastSignSays}
 use Rattle.notation.specs.declared.refusal.Refusal.{Refusal}
-use Rattle.notation.specs.declared.tokens.Kind.{Kind}
-use Rattle.notation.specs.declared.tokens.Kind.the-variants as kind
-use Rattle.notation.specs.declared.tokens.Token as token
-use Rattle.operands.specs.declared.At.{At}
-use Rattle.operands.specs.declared.Part.{Part}
-use Rattle.operands.specs.declared.Operand.{Operand}
-use Rattle.operands.specs.declared.Operand.the-variants as answer
+use Rattle.notation.specs.declared.place.Kind.{Kind}
+use Rattle.notation.specs.declared.place.Kind.the-variants as kind
+use Rattle.notation.specs.declared.place.Step.{Step}
 
 -- signs are the same where they bind as tight
 pub same-binding : (s t : Sign) → eqb (binding s) (binding t) ≡ sameSign s t
@@ -73,6 +72,22 @@ joins-on (kind.Sign c) e = refl
 joins-on kind.Opening e = refl
 joins-on kind.Closing e = refl
 
+-- which sign stands next, whether `!` does or a closing bracket, is told by the number of the kind
+pub sign-test : (s : Sign) (k : ℕ) → eqb k (signNumber s) ≡ kindIs s (kindOf k)
+unfolding agree agrees kindOf kindIs sameSign
+sign-test same k = kind-test (kindIs same) 8 (omega arith) refl refl k
+sign-test implies k = kind-test (kindIs implies) 7 (omega arith) refl refl k
+sign-test or k = kind-test (kindIs or) 6 (omega arith) refl refl k
+sign-test and k = kind-test (kindIs and) 5 (omega arith) refl refl k
+
+pub bang-test : (k : ℕ) → eqb k 4 ≡ bangs (kindOf k)
+unfolding agree agrees kindOf
+bang-test k = kind-test bangs 4 (omega arith) refl refl k
+
+pub closing-test : (k : ℕ) → eqb k 10 ≡ closes (kindOf k)
+unfolding agree agrees kindOf
+closing-test k = kind-test closes 10 (omega arith) refl refl k
+
 -- after a token that is not the end come the tokens from its end on
 pub past-ahead : (k : Kind) (text : List ℕ) (p e : ℕ) → ends k ≡ false → past (aheadAs k text p e) ≡ tokensAt text e
 unfolding past aheadAs
@@ -108,44 +123,78 @@ sign-passed (kind.Sign c) text p e d u m h l = rw (add-one, le-leb (suc m) conne
 sign-passed kind.Opening text p e d u m h l = absurd (true≢false (sym h))
 sign-passed kind.Closing text p e d u m h l = absurd (true≢false (sym h))
 
-module _ (text : List ℕ) (at : At) (l : ℕ) (fits : TokenFits text (at .token)) (on : ends (at .token .kind) ≡ false) where
-  -- the token after the one ahead
-  pub advanced-found : (t : token.Token) → NextToken text (at .token .next) t →
-      AdvancedSays text at l (answer.Found (record { literal = l; at = record { token = t; flags = at .flags; signs = at .signs; count = at .count } }))
-  advanced-found t n = (
-    record {
-      tokens = past-ahead (at .token .kind) text (at .token .start) (at .token .next) on ∙ n .tokens;
-      token = record { moves = n .moves; inside = n .inside };
-      later = omega (arith, fits .moves on, n .later);
-      flags = refl;
-      count = refl;
-    },
-    refl,
-    refl,
-  )
+after-it : (text p : List ℕ) → ends (kindOf (getD p 0 0)) ≡ false → past (ahead text (tokenIn p)) ≡ tokensAt text (getD p 2 0)
+after-it text p on = past-ahead (kindOf (getD p 0 0)) text (getD p 1 0) (getD p 2 0) on
 
-  -- or a faulty one
-  pub advanced-refused : (f : Refusal) → FaultyHere (tokensAt text (at .token .next)) f → AdvancedSays text at l (answer.Refused f)
-  advanced-refused f h = λ w d u m. ap (walk w d u m) (past-ahead (at .token .kind) text (at .token .start) (at .token .next) on) ∙ h w d u m
+-- the token after the one ahead, or a faulty one
+pub advanced-says : {text p p′ : List ℕ} {r : Step} → TokenFits text (tokenIn p) → ends (kindOf (getD p 0 0)) ≡ false →
+    CutSays text (getD p 2 0) p r p′ → AdvancedSays text p r p′
+advanced-says {text} {p} fits on c = record {
+  taken = λ e.
+      let n = c .taken e in
+      record {
+        tokens = after-it text p on ∙ n .tokens;
+        token = record { moves = n .moves; inside = n .inside };
+        later = omega (arith, fits .moves on, n .later);
+        flags = c .behind .flags;
+        signs = c .behind .signs;
+        count = c .behind .count;
+      };
+  refused = λ e w d u m. ap (walk w d u m) (after-it text p on) ∙ c .refused e w d u m;
+  kept = record { waits = c .behind .waits; room = c .behind .room };
+}
 
--- past a sign that is within the ceiling
-pub past-sign-says : (text : List ℕ) (left : Part) (r : Operand) → joins (left .at .token .kind) ≡ true → left .at .signs < connectiveCeiling →
-    AdvancedSays text (record { token = left .at .token; flags = left .at .flags; signs = left .at .signs + 1; count = left .at .count }) (left .literal) r →
-    PastSignSays text left r
-past-sign-says text left (answer.Found p) j l h = (
-  record {
-    tokens = h .0 .tokens;
-    token = h .0 .token;
-    later = h .0 .later;
-    flags = h .0 .flags;
-    count = h .0 .count;
-  },
-  h .1,
-  h .2,
-  l,
-)
-past-sign-says text left (answer.Refused f) j l h =
-    λ d u. sign-passed (left .at .token .kind) text (left .at .token .start) (left .at .token .next) d u (left .at .signs) j l ∙ h operand d u (left .at .signs + 1)
+-- one sign more is counted
+pub record SignCounted (p p₁ : List ℕ) : Type 0 where
+  pub kind : getD p₁ 0 0 ≡ getD p 0 0
+  pub start : getD p₁ 1 0 ≡ getD p 1 0
+  pub next : getD p₁ 2 0 ≡ getD p 2 0
+  pub flags : getD p₁ 3 0 ≡ getD p 3 0
+  pub signs : getD p₁ 4 0 ≡ getD p 4 0 + 1
+  pub count : getD p₁ 5 0 ≡ getD p 5 0
+  pub waits : getD p₁ 7 0 ≡ getD p 7 0
+  pub room : length p₁ ≡ placeRoom
+
+pub sign-counted : (p : List ℕ) → length p ≡ placeRoom → SignCounted p (set p 4 (getD p 4 0 + 1))
+sign-counted p l =
+    eight (λ q. SignCounted q (set q 4 (getD q 4 0 + 1)))
+    (λ a b c d e f g h. record { kind = refl; start = refl; next = refl; flags = refl; signs = refl; count = refl; waits = refl; room = refl }) p l
+
+module _ (text p : List ℕ) (fits : TokenFits text (tokenIn p)) (j : joins (kindOf (getD p 0 0)) ≡ true) where
+  -- past a sign that is within the ceiling
+  pub past-sign-says : {p₁ p′ : List ℕ} {r : Step} → getD p 4 0 < connectiveCeiling → SignCounted p p₁ → CutSays text (getD p₁ 2 0) p₁ r p′ →
+      PastSignSays text p r p′
+  past-sign-says {p₁} {p′} {r} l s c =
+      let on = joins-on (kindOf (getD p 0 0)) j in
+      let here : tokensAt text (getD p 2 0) ≡ tokensAt text (getD p₁ 2 0) = ap (tokensAt text) (sym (s .next)) in
+      record {
+        taken = λ e.
+            let n = c .taken e in (
+              record {
+                tokens = after-it text p on ∙ here ∙ n .tokens;
+                token = record { moves = n .moves; inside = n .inside };
+                later = omega (arith, fits .moves on, n .later, s .next);
+                flags = c .behind .flags ∙ s .flags;
+                signs = c .behind .signs ∙ s .signs;
+                count = c .behind .count ∙ s .count;
+              },
+              l,
+            );
+        refused = λ e d u.
+            sign-passed (kindOf (getD p 0 0)) text (getD p 1 0) (getD p 2 0) d u (getD p 4 0) j l
+            ∙ ap (walk operand d u (getD p 4 0 + 1)) (after-it text p on ∙ here) ∙ c .refused e operand d u (getD p 4 0 + 1);
+        kept = record { waits = c .behind .waits ∙ s .waits; room = c .behind .room };
+      }
+
+  -- past the ceiling it is refused
+  pub past-sign-refused : {p′ : List ℕ} {r : Step} → connectiveCeiling ≤ getD p 4 0 → RefusedAt 8 (getD p 1 0) p r p′ → PastSignSays text p r p′
+  past-sign-refused {p′} {r} l c = record {
+    taken = λ e. never-both r e (c .answer);
+    refused = λ e d u.
+        sign-refused (kindOf (getD p 0 0)) text (getD p 1 0) (getD p 2 0) d u (getD p 4 0) j l
+        ∙ ap (λ (f : Refusal). refused (f .number) (f .place)) (sym (c .refusal));
+    kept = record { waits = c .behind .waits; room = c .behind .room };
+  }
 
 same-self : (s : Sign) → sameSign s s ≡ true
 unfolding sameSign

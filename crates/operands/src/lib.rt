@@ -1,198 +1,194 @@
-// What the reader's levels stand on: where the reader stands, the operands that are no guard in brackets, and steps past a token.
+// What the reader's levels stand on: steps past a token, the operands that are no guard in brackets, and two operands joined. Each goes
+// over the lent place where the reader stands.
+use notation::ceilings::CODES_ROOM;
 use notation::ceilings::CONNECTIVES;
 use notation::ceilings::FLAGS;
+use notation::ceilings::TRIPLETS_ROOM;
 use notation::codes;
-use notation::refusal::Refusal;
-use notation::tokens::Connective;
-use notation::tokens::Cut;
-use notation::tokens::Kind;
-use notation::tokens::Token;
+use notation::place::COUNT;
+use notation::place::Connective;
+use notation::place::KIND;
+use notation::place::Kind;
+use notation::place::NEXT;
+use notation::place::PLACE;
+use notation::place::SEEN;
+use notation::place::SIGNS;
+use notation::place::START;
+use notation::place::Step;
+use notation::place::WAITING;
+use notation::place::refuse;
 use notation::tokens::token_at;
 use notation::triplets;
 ghost use mathlib.Core.Path.{_≡_};
 ghost use mathlib.Core.Bool.{true, false};
-ghost use Prim.Native.Nat.{_+_, _*_, _≤_, _<_};
-ghost use lib.ListN.{length};
-ghost use Rattle.notation.specs.Grammar.{sameSign};
+ghost use Prim.Native.Nat.{_+_, _-_, _*_, _≤_, _<_};
+ghost use lib.ListN.{length, getD};
 ghost use Rattle.notation.specs.contracts.Cut.{ends, signOf};
 ghost use Rattle.notation.specs.Ceilings.{connectiveCeiling, flagCeiling};
-ghost use Rattle.notation.specs.Triplets.{tripletOf, literalCeiling};
-ghost use Rattle.notation.specs.contracts.Writing.{tripletAt};
-ghost use Rattle.operands.specs.contracts.Levels.{TokenFits, Standing, AdvancedSays, PastSignSays, AtomSays, ClosedSays, passedOn, kindIs, joins, bangs, closes, binding, joinedPart};
+ghost use Rattle.notation.specs.Tokens.{implies};
+ghost use Rattle.notation.specs.Triplets.{literalCeiling};
+ghost use Rattle.notation.specs.contracts.Place.{placeRoom, kindOf, tokenIn};
+ghost use Rattle.operands.specs.contracts.Steps.{signNumber, kindIs, joins, bangs, closes, place, TokenFits, Standing, AdvancedSays, PastSignSays, PastTokenSays, AtomSays, TruthSays, ClosedSays, RefusedSays, JoinedSays, SetAside};
 
-// Where the reader stands: the token ahead, and how many flags, signs and triplets lie behind.
-pub struct At {
-    pub token: Token,
-    pub flags: usize,
-    pub signs: usize,
-    pub count: usize,
+// What a level answers: the literal of the operand that it read. A refusal's number and place stand in the lent place.
+pub enum Answer {
+    Found(u16),
+    Refused,
 }
 
-// An operand that was read: its literal, and where the reader stands after it.
-pub struct Part {
-    pub literal: u16,
-    pub at: At,
-}
-
-pub enum Operand {
-    Found(Part),
-    Refused(Refusal),
-}
-
-pub fn passed_on(cut: Cut) -> Operand
-    ensures { λ r. ⌜ r ≡ passedOn cut ⌝ }
+// Refused with this number at the token ahead.
+pub fn refused(at: &mut [usize; PLACE], number: usize) -> Answer
+    requires { ⌜ length (now at) ≡ placeRoom ⌝ }
+    ensures { λ r. ⌜ RefusedSays number (now (at .entry)) r (now (at .exit)) ⌝ }
 {
-    match cut {
-        Cut::Refused(refusal) => Operand::Refused(refusal),
-        Cut::Token(token) => Operand::Refused(Refusal {
-            number: 5,
-            place: token.start,
-        }),
-    }
+    let start = at[START];
+    refuse(at, number, start);
+    Answer::Refused
 }
 
-// A literal with the reader one token further.
-pub fn advanced(text: &[u8], literal: u16, at: At) -> Operand
-    requires { ⌜ TokenFits (now text) (at .token) ⌝ }
-    requires { ⌜ ends (at .token .kind) ≡ false ⌝ }
-    ensures { λ r. ⌜ AdvancedSays (now (text .entry)) at literal r ⌝ }
+// One token further.
+pub fn advanced(text: &[u8], at: &mut [usize; PLACE]) -> Step
+    requires { ⌜ length (now at) ≡ placeRoom ⌝ }
+    requires { ⌜ TokenFits (now text) (tokenIn (now at)) ⌝ }
+    requires { ⌜ ends (kindOf (getD (now at) 0 0)) ≡ false ⌝ }
+    ensures { λ r. ⌜ AdvancedSays (now (text .entry)) (now (at .entry)) r (now (at .exit)) ⌝ }
 {
-    let here = at.token;
-    let next = here.next;
-    let cut = token_at(text, next);
-    let Cut::Token(token) = cut else {
-        return passed_on(cut);
-    };
-    let to = At {
-        token,
-        flags: at.flags,
-        signs: at.signs,
-        count: at.count,
-    };
-    Operand::Found(Part { literal, at: to })
+    token_at(text, at)
 }
 
 // Past a sign, of which there may be no more than the ceiling.
-pub fn past_sign(text: &[u8], left: Part) -> Operand
-    requires { ⌜ TokenFits (now text) (left .at .token) ⌝ }
-    requires { ⌜ joins (left .at .token .kind) ≡ true ⌝ }
-    ensures { λ r. ⌜ PastSignSays (now (text .entry)) left r ⌝ }
+pub fn past_sign(text: &[u8], at: &mut [usize; PLACE]) -> Step
+    requires { ⌜ length (now at) ≡ placeRoom ⌝ }
+    requires { ⌜ TokenFits (now text) (tokenIn (now at)) ⌝ }
+    requires { ⌜ joins (kindOf (getD (now at) 0 0)) ≡ true ⌝ }
+    ensures { λ r. ⌜ PastSignSays (now (text .entry)) (now (at .entry)) r (now (at .exit)) ⌝ }
 {
-    let at = left.at;
-    let token = at.token;
-    let signs = at.signs;
+    let signs = at[SIGNS];
+    let start = at[START];
     if CONNECTIVES <= signs {
-        return Operand::Refused(Refusal {
-            number: 8,
-            place: token.start,
-        });
+        return refuse(at, 8, start);
     }
-    let seen = At {
-        token,
-        flags: at.flags,
-        signs: signs + 1,
-        count: at.count,
-    };
-    advanced(text, left.literal, seen)
+    at[SIGNS] = signs + 1;
+    token_at(text, at)
 }
 
-fn same_connective(a: Connective, b: Connective) -> bool
-    ensures { λ r. ⌜ r ≡ sameSign (signOf a) (signOf b) ⌝ }
+fn sign_number(sign: Connective) -> usize
+    ensures { λ r. ⌜ r ≡ signNumber (signOf sign) ⌝ }
 {
-    connective_number(a) == connective_number(b)
-}
-
-fn connective_number(c: Connective) -> u8
-    ensures { λ r. ⌜ r ≡ binding (signOf c) ⌝ }
-{
-    match c {
-        Connective::And => 1,
-        Connective::Or => 2,
-        Connective::Implies => 3,
-        Connective::Same => 4,
+    match sign {
+        Connective::And => 5,
+        Connective::Or => 6,
+        Connective::Implies => 7,
+        Connective::Same => 8,
     }
 }
 
-// Whether the token is a sign.
-fn is_sign(token: Token, sign: Connective) -> bool
-    ensures { λ r. ⌜ r ≡ kindIs (signOf sign) (token .kind) ⌝ }
+// Whether a sign stands next.
+pub fn sign_follows(at: &[usize; PLACE], sign: Connective) -> bool
+    ensures { λ r. ⌜ r ≡ kindIs (signOf sign) (kindOf (getD (now (at .entry)) 0 0)) ⌝ }
 {
-    let kind = token.kind;
-    match kind {
-        Kind::Sign(found) => same_connective(sign, found),
-        Kind::End => false,
-        Kind::Code => false,
-        Kind::Truth(_) => false,
-        Kind::Bang => false,
-        Kind::Opening => false,
-        Kind::Closing => false,
-    }
+    at[KIND] == sign_number(sign)
 }
 
-fn is_bang(token: Token) -> bool
-    ensures { λ r. ⌜ r ≡ bangs (token .kind) ⌝ }
+pub fn bang_follows(at: &[usize; PLACE]) -> bool
+    ensures { λ r. ⌜ r ≡ bangs (kindOf (getD (now (at .entry)) 0 0)) ⌝ }
 {
-    let kind = token.kind;
-    match kind {
-        Kind::Bang => true,
-        Kind::End => false,
-        Kind::Code => false,
-        Kind::Truth(_) => false,
-        Kind::Sign(_) => false,
-        Kind::Opening => false,
-        Kind::Closing => false,
-    }
+    at[KIND] == 4
+}
+
+fn closing_follows(at: &[usize; PLACE]) -> bool
+    ensures { λ r. ⌜ r ≡ closes (kindOf (getD (now (at .entry)) 0 0)) ⌝ }
+{
+    at[KIND] == 10
 }
 
 // Two operands joined by a sign: their triplet is written after those of both.
-pub fn joined(out: &mut [u16], sign: Connective, left: u16, right: Part) -> Part
-    requires { ⌜ length (now out) ≡ 3 * connectiveCeiling ⌝ }
-    requires { ⌜ right .at .count < connectiveCeiling ⌝ }
-    requires { ⌜ ((left ≤ literalCeiling) × (right .literal ≤ literalCeiling)) ⌝ }
-    ensures { λ r. ⌜ ((r ≡ joinedPart (signOf sign) right) × (now (out .exit) ≡ tripletAt (now (out .entry)) (right .at .count) (tripletOf (signOf sign) left (right .literal)))) ⌝ }
+pub fn joined(
+    out: &mut [u16; TRIPLETS_ROOM],
+    at: &mut [usize; PLACE],
+    sign: Connective,
+    left: u16,
+    right: u16,
+) -> u16
+    requires { ⌜ ((length (now out) ≡ 3 * connectiveCeiling) × (length (now at) ≡ placeRoom)) ⌝ }
+    requires { ⌜ getD (now at) 5 0 < connectiveCeiling ⌝ }
+    requires { ⌜ ((left ≤ literalCeiling) × (right ≤ literalCeiling)) ⌝ }
+    ensures { λ r. ⌜ JoinedSays (signOf sign) left right (getD (now (at .entry)) 7 0)
+        (now (at .entry)) (now (out .entry)) r (now (at .exit)) (now (out .exit)) ⌝ }
 {
-    let at = right.at;
-    let token = at.token;
-    let count = at.count;
-    triplets::write(out, count, sign, left, right.literal);
-    let literal = triplets::literal_of(sign, count);
-    let to = At {
-        token,
-        flags: at.flags,
-        signs: at.signs,
-        count: count + 1,
+    let count = at[COUNT];
+    triplets::write(out, count, sign, left, right);
+    at[COUNT] = count + 1;
+    triplets::literal_of(sign, count)
+}
+
+// The literal before a `>` waits for what the sign leads to.
+pub fn set_aside(at: &mut [usize; PLACE], wait: &mut [u16; CONNECTIVES], literal: u16)
+    requires { ⌜ ((length (now at) ≡ placeRoom) × (length (now wait) ≡ connectiveCeiling)) ⌝ }
+    requires { ⌜ getD (now at) 7 0 < connectiveCeiling ⌝ }
+    ensures { λ _. ⌜ SetAside literal (now (at .entry)) (now (wait .entry)) (now (at .exit)) (now (wait .exit)) ⌝ }
+{
+    let n = at[WAITING];
+    wait[n] = literal;
+    at[WAITING] = n + 1;
+}
+
+// The last literal that waits is joined with what its `>` leads to.
+pub fn join_last(
+    out: &mut [u16; TRIPLETS_ROOM],
+    at: &mut [usize; PLACE],
+    wait: &[u16; CONNECTIVES],
+    right: u16,
+) -> u16
+    requires { ⌜ ((length (now out) ≡ 3 * connectiveCeiling) × (length (now at) ≡ placeRoom)) ⌝ }
+    requires { ⌜ ((0 < getD (now at) 7 0) × (getD (now at) 7 0 ≤ connectiveCeiling)) ⌝ }
+    requires { ⌜ getD (now at) 5 0 < connectiveCeiling ⌝ }
+    requires { ⌜ ((getD (now wait) (getD (now at) 7 0 - 1) 0 ≤ literalCeiling) × (right ≤ literalCeiling)) ⌝ }
+    ensures { λ r. ⌜ JoinedSays implies
+        (getD (now (wait .entry)) (getD (now (at .entry)) 7 0 - 1) 0) right (getD (now (at .entry)) 7 0 - 1)
+        (now (at .entry)) (now (out .entry)) r (now (at .exit)) (now (out .exit)) ⌝ }
+{
+    let n = at[WAITING] - 1;
+    let left = wait[n];
+    at[WAITING] = n;
+    joined(out, at, Connective::Implies, left, right)
+}
+
+// A literal, once the reader is past its token.
+fn past_token(text: &[u8], at: &mut [usize; PLACE], literal: u16) -> Answer
+    requires { ⌜ length (now at) ≡ placeRoom ⌝ }
+    requires { ⌜ TokenFits (now text) (tokenIn (now at)) ⌝ }
+    requires { ⌜ ends (kindOf (getD (now at) 0 0)) ≡ false ⌝ }
+    ensures { λ r. ⌜ PastTokenSays (now (text .entry)) (now (at .entry)) literal r (now (at .exit)) ⌝ }
+{
+    let moved = advanced(text, at);
+    let Step::Taken = moved else {
+        return Answer::Refused;
     };
-    Part { literal, at: to }
+    Answer::Found(literal)
 }
 
 // A code: a flag that is known, or a new one.
-pub fn code_operand(text: &[u8], at: At, codes: &mut [usize]) -> Operand
-    requires { ⌜ Standing (now text) (now codes) at ⌝ }
-    requires { ⌜ at .token .kind ≡ Kind.Code ⌝ }
-    ensures { λ r. ⌜ AtomSays (now (text .entry)) at (now (codes .entry)) r (now (codes .exit)) ⌝ }
+pub fn code_operand(text: &[u8], at: &mut [usize; PLACE], codes: &mut [usize; CODES_ROOM]) -> Answer
+    requires { ⌜ length (now at) ≡ placeRoom ⌝ }
+    requires { ⌜ Standing (now text) (now codes) (place (now at)) ⌝ }
+    requires { ⌜ kindOf (getD (now at) 0 0) ≡ Kind.Code ⌝ }
+    ensures { λ r. ⌜ AtomSays (now (text .entry)) (now (at .entry)) (now (codes .entry)) r (now (at .exit)) (now (codes .exit)) ⌝ }
 {
-    let token = at.token;
-    let start = token.start;
-    let next = token.next;
-    let flags = at.flags;
-    let place = codes::place_of(text, codes, flags, start, next);
+    let start = at[START];
+    let next = at[NEXT];
+    let flags = at[SEEN];
+    let key = codes::key_of(text, start, next);
+    let place = codes::place_of(text, codes, flags, start, next, key);
     if place < flags {
-        return advanced(text, flag_literal(place), at);
+        return past_token(text, at, flag_literal(place));
     }
     if FLAGS <= flags {
-        return Operand::Refused(Refusal {
-            number: 7,
-            place: start,
-        });
+        return refused(at, 7);
     }
-    codes::enter(codes, flags, start, next);
-    let entered = At {
-        token,
-        flags: flags + 1,
-        signs: at.signs,
-        count: at.count,
-    };
-    advanced(text, flag_literal(place), entered)
+    codes::enter(codes, flags, start, next, key);
+    at[SEEN] = flags + 1;
+    past_token(text, at, flag_literal(place))
 }
 
 // The literal of the flag at a place of the table, counted from 0.
@@ -204,68 +200,28 @@ fn flag_literal(place: usize) -> u16
 }
 
 // `#0` or `#1`.
-pub fn truth_operand(text: &[u8], at: At, codes: &[usize], truth: bool) -> Operand
-    requires { ⌜ Standing (now text) (now codes) at ⌝ }
-    requires { ⌜ at .token .kind ≡ Kind.Truth truth ⌝ }
-    ensures { λ r. ⌜ AtomSays (now (text .entry)) at (now (codes .entry)) r (now (codes .entry)) ⌝ }
+pub fn truth_operand(text: &[u8], at: &mut [usize; PLACE], truth: bool) -> Answer
+    requires { ⌜ length (now at) ≡ placeRoom ⌝ }
+    requires { ⌜ TokenFits (now text) (tokenIn (now at)) ⌝ }
+    requires { ⌜ kindOf (getD (now at) 0 0) ≡ Kind.Truth truth ⌝ }
+    ensures { λ r. ⌜ TruthSays (now (text .entry)) (now (at .entry)) r (now (at .exit)) ⌝ }
 {
     if truth {
-        return advanced(text, 0, at);
+        return past_token(text, at, 0);
     }
-    advanced(text, 1, at)
+    past_token(text, at, 1)
 }
 
 // Past the bracket that closes a guard.
-pub fn closed(text: &[u8], inner: Part) -> Operand
-    requires { ⌜ TokenFits (now text) (inner .at .token) ⌝ }
-    requires { ⌜ joins (inner .at .token .kind) ≡ false ⌝ }
-    ensures { λ r. ⌜ ClosedSays (now (text .entry)) inner r ⌝ }
+pub fn closed(text: &[u8], at: &mut [usize; PLACE]) -> Step
+    requires { ⌜ length (now at) ≡ placeRoom ⌝ }
+    requires { ⌜ TokenFits (now text) (tokenIn (now at)) ⌝ }
+    requires { ⌜ joins (kindOf (getD (now at) 0 0)) ≡ false ⌝ }
+    ensures { λ r. ⌜ ClosedSays (now (text .entry)) (now (at .entry)) r (now (at .exit)) ⌝ }
 {
-    let at = inner.at;
-    let token = at.token;
-    if is_closing(token) {
-        return advanced(text, inner.literal, at);
+    let start = at[START];
+    if closing_follows(at) {
+        return advanced(text, at);
     }
-    Operand::Refused(Refusal {
-        number: 5,
-        place: token.start,
-    })
-}
-
-fn is_closing(token: Token) -> bool
-    ensures { λ r. ⌜ r ≡ closes (token .kind) ⌝ }
-{
-    let kind = token.kind;
-    match kind {
-        Kind::Closing => true,
-        Kind::End => false,
-        Kind::Code => false,
-        Kind::Truth(_) => false,
-        Kind::Bang => false,
-        Kind::Sign(_) => false,
-        Kind::Opening => false,
-    }
-}
-
-// A token that cannot stand where it does.
-pub fn misplaced(place: usize) -> Operand
-    ensures { λ r. ⌜ r ≡ Operand.Refused (record { number = 5; place = place }) ⌝ }
-{
-    Operand::Refused(Refusal { number: 5, place })
-}
-
-// Whether a sign stands after an operand.
-pub fn sign_follows(left: Part, sign: Connective) -> bool
-    ensures { λ r. ⌜ r ≡ kindIs (signOf sign) (left .at .token .kind) ⌝ }
-{
-    let at = left.at;
-    let token = at.token;
-    is_sign(token, sign)
-}
-
-pub fn bang_follows(at: At) -> bool
-    ensures { λ r. ⌜ r ≡ bangs (at .token .kind) ⌝ }
-{
-    let token = at.token;
-    is_bang(token)
+    refuse(at, 5, start)
 }

@@ -9,7 +9,7 @@ use Rattle.notation.specs.Walk.{Flag}
 use Rattle.notation.specs.Guard.{Guard, connectives}
 use Rattle.notation.specs.Triplets.{literal, triplets, numbers}
 use Rattle.notation.specs.Reading.{Reading, refusal, guard, reading}
-use Rattle.operands.specs.declared.Part.{Part}
+use Rattle.operands.specs.contracts.Steps.{Part}
 use Rattle.reading.specs.declared.parse.Parsed.{Parsed}
 use Rattle.reading.specs.declared.parse.Parsed.the-variants as parsed
 use Rattle.reading.specs.declared.name.Named.{Named}

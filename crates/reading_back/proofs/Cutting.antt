@@ -13,7 +13,7 @@ use Rattle.notation.specs.Ceilings.{codeCeiling}
 use Rattle.notation.specs.Tokens.{Sign, same, implies, or, and, Token, Tokens, code, hash, bang, sign, opening, closing, at, among, codeByte, codeRun, coded, hashed, marked, tokenOf, further, tokensFrom}
 use Rattle.ground.specs.Choice.{choose}
 use Rattle.notation.specs.Grammar.{isSign, signNext, sameSign, past}
-use Rattle.operands.specs.contracts.Levels.{binding}
+use Rattle.operands.specs.contracts.Steps.{binding}
 use Rattle.ground.proofs.Cases.{either}
 use Rattle.operands.proofs.Stepping.{same-binding}
 use Rattle.reading_back.specs.Written.{signByte, codeBytes, IsCode}

@@ -12,7 +12,8 @@ use Rattle.notation.specs.Tokens.{Code, Sign, tokensFrom}
 use Rattle.notation.specs.Walk.{Flag}
 use Rattle.notation.specs.Guard.{Guard, joined, connectives}
 use Rattle.notation.specs.Grammar.{Level, leftLevel, rightLevel, toTheRight}
-use Rattle.operands.specs.contracts.Levels.{binding, plain, Reads}
+use Rattle.operands.specs.contracts.Steps.{binding}
+use Rattle.levels.specs.contracts.Levels.{plain, Reads}
 use Rattle.levels.proofs.Leveling.{Chain, chain-first, chain-more, chain-done, right-one, right-two}
 use Rattle.levels.proofs.Written.{connectives-joined}
 use Rattle.reading_back.specs.Written.{signByte, Stands, met, order, placeIn, renamed, written, Placed, WithinCeilings}

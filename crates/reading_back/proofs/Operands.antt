@@ -13,7 +13,7 @@ use Rattle.ground.specs.Choice.{choose}
 use Rattle.notation.specs.Walk.{Flag, seen, walk, operand, after, within}
 use Rattle.notation.specs.Guard.{Guard, flag, truth, negated, connectives}
 use Rattle.notation.specs.Grammar.{Level, Parsed, found, follow, number, closed, operandOf, inBrackets, sameOf}
-use Rattle.operands.specs.contracts.Levels.{plain, operandsAt}
+use Rattle.levels.specs.contracts.Levels.{plain, operandsAt}
 use Rattle.operands.proofs.Operands.{no-tighter}
 use Rattle.reading_back.specs.Written.{Stands, met, order, placeIn, renamed, written, Placed, WithinCeilings}
 use Rattle.reading_back.proofs.Codes.{matches-length, matches-seen, number-is, begins-length}

@@ -10,7 +10,7 @@ use Rattle.notation.specs.Tokens.{Code, Tokens, tokens, tokensFrom}
 use Rattle.notation.specs.Walk.{Flag, accepted, walk, operand, after}
 use Rattle.notation.specs.Guard.{Guard}
 use Rattle.notation.specs.Grammar.{found, sameOf, treeOf, tree}
-use Rattle.operands.specs.contracts.Levels.{operandsAt, Reads}
+use Rattle.levels.specs.contracts.Levels.{operandsAt, Reads}
 use Rattle.notation.specs.Reading.{reading, judged, guard}
 use Rattle.reading_back.specs.Written.{met, order, placeIn, renamed, renumbered, written, nesting, Stands, flagsOf, Placed, EachPlaced, WithinCeilings}
 use Rattle.reading_back.proofs.Codes.{nothing, matches-each}

@@ -14,7 +14,7 @@ use Rattle.ground.specs.Choice.{choose}
 use Rattle.notation.specs.Walk.{seen}
 use Rattle.notation.specs.Guard.{Guard, flag, truth, negated, joined}
 use Rattle.notation.specs.Grammar.{Level, toTheRight, andOf, orOf, impliesOf, sameOf}
-use Rattle.operands.specs.contracts.Levels.{plain, operandsAt}
+use Rattle.levels.specs.contracts.Levels.{plain, operandsAt}
 use Rattle.reading_back.specs.Written.{signByte, levelOf, leftOf, rightOf, bracketed, written, nesting, Stands, WithinCeilings}
 use Rattle.reading_back.proofs.Levels.{After, afterBoth, ReadsAs, ChainsAs, chain-start, chain-end, chain-join, right-end, right-join, right-whole}
 use Rattle.reading_back.proofs.Operands.{OperandAs, flag-back, truth-back, negated-back, bracket-back}

@@ -9,7 +9,7 @@ use Rattle.notation.specs.Tokens.{Tokens, Sign, same, implies, or, and, stray, 
 use Rattle.notation.specs.Walk.{Flag, accepted, walk, operand, after}
 use Rattle.notation.specs.Grammar.{sameSign, isSign, signNext, past}
 use Rattle.notation.proofs.Accepted.{not-accepted, within-kept}
-use Rattle.operands.specs.contracts.Levels.{binding}
+use Rattle.operands.specs.contracts.Steps.{binding}
 
 -- where a sign stands next, the tokens are that sign and those past it
 pub record SignNext (ts : Tokens) : Type 0 where

@@ -16,7 +16,7 @@ use Rattle.notation.specs.Grammar.{Parsed, found, follow, number, closed, sameO
 use Rattle.notation.specs.Reading.{refusal, guard, judged, reading}
 use Rattle.ground.proofs.Cases.{either}
 use Rattle.notation.proofs.Accepted.{not-accepted, within-accepted, within-kept}
-use Rattle.operands.specs.contracts.Levels.{plain, operandsAt}
+use Rattle.levels.specs.contracts.Levels.{plain, operandsAt}
 use Rattle.operands.proofs.Operands.{no-tighter}
 use Rattle.text_laws.specs.Texts.{whole, codeOf, leaves, seenAt}
 use Rattle.text_laws.proofs.Accepting.{Closing, closing-is, Ended, end-is}

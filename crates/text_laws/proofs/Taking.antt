@@ -11,7 +11,8 @@ use Rattle.notation.specs.Walk.{Flag, accepted, walk, operand, after}
 use Rattle.notation.specs.Guard.{Guard, joined}
 use Rattle.notation.specs.Grammar.{Level, signNext, past, toTheRight, leftLevel, rightLevel, andOf, orOf, impliesOf, sameOf}
 use Rattle.ground.proofs.Cases.{either}
-use Rattle.operands.specs.contracts.Levels.{binding, plain, Reads}
+use Rattle.operands.specs.contracts.Steps.{binding}
+use Rattle.levels.specs.contracts.Levels.{plain, Reads}
 use Rattle.levels.proofs.Leveling.{Chain, past-sign, chain-first, chain-more, chain-done, right-one, right-two}
 use Rattle.text_laws.specs.Texts.{leaves}
 use Rattle.text_laws.proofs.Accepting.{sign-room}

@@ -1,32 +1,41 @@
--- `operands::joined` meets its contract: one triplet is written, and its variable's literal handed on.
-use mathlib.Core.Path.{ap}
-use Prim.Native.Nat.{ℕ, _+_}
-use native.Mathlib.Omega.{arith}
+-- `operands::joined` meets its contract: the triplet is written and counted.
+use Rattle.notation.specs.contracts.Cut.{signOf}
+use Rattle.operands.proofs.Pairing.{joined-says}
 use borrow.Author.Needs.{needs}
 use Rattle.operands.proofs.joined.Statement.{statement}
 use Rattle.operands.proofs.joined.Tie as tie
 
+element-copy-out-count : tie.Need-element-copy-out-count
+element-copy-out-count c = search needs
+
 write-requires : tie.Need-write-requires
-write-requires c κs =
-    let pre· = c .before .before .before .before .pre in
-    (omega (arith, pre· .0, pre· .1 .0), pre· .1 .1)
+write-requires c κs = search needs
+
+add-at : tie.Need-add-at
+add-at c = search needs
+
+element-write-at : tie.Need-element-write-at
+element-write-at c = search needs
 
 literal-of-requires : tie.Need-literal-of-requires
 literal-of-requires c κs = search needs
 
-add-t13 : tie.Need-add-t13
-add-t13 c = search needs
-
-same-length : tie.Need-same-length
-same-length c = search needs
-
 returns : tie.Need-returns
 returns c =
-    let args· = c .before .before .before .before .before .before .before .before .args in
+    let args· = c .before .before .before .before .args in
     let literal-of· = c .literal-of in
-    let write· = c .before .before .before .write in
-    let t = args· .right .at in
-    (ap (λ (l : ℕ). record { literal = l; at = record { token = t .token; flags = t .flags; signs = t .signs; count = t .count + 1 } }) (literal-of· .ensures), write· .ensures)
+    let write· = c .before .write in
+    let pre· = c .before .before .before .before .pre in
+    joined-says (signOf (args· .sign)) (args· .left) (args· .right) (literal-of· .result) (args· .at .now) (args· .out .now) (write· .last .0)
+    (pre· .0 .1) (literal-of· .ensures) (write· .ensures)
 
 pub joined-spec : {M : Type 1} → statement M
-joined-spec = tie.close (tie.spec write-requires literal-of-requires add-t13 same-length returns)
+joined-spec =
+    tie.close
+    (tie.spec
+    element-copy-out-count
+    write-requires
+    add-at
+    element-write-at
+    literal-of-requires
+    returns)

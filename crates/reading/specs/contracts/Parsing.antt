@@ -11,12 +11,9 @@ use Rattle.notation.specs.Guard.{Guard, connectives}
 use Rattle.notation.specs.Triplets.{literal, triplets, numbers}
 use Rattle.notation.specs.Reading.{Reading, refusal, guard}
 use Rattle.notation.specs.contracts.Cut.{ends}
-use Rattle.notation.specs.contracts.Codes.{startOf, endOf, flagsIn, InText}
-use Rattle.operands.specs.declared.Part.{Part}
-use Rattle.operands.specs.declared.Operand.{Operand}
-use Rattle.operands.specs.declared.Operand.the-variants as operand
+use Rattle.notation.specs.contracts.Codes.{codesRoom, startOf, endOf, flagsIn, InText}
+use Rattle.operands.specs.contracts.Steps.{Part}
 use Rattle.reading.specs.declared.parse.Parsed.{Parsed}
-use Rattle.reading.specs.declared.parse.Parsed.the-variants as parsed
 use Rattle.reading.specs.declared.name.Named.{Named}
 use Rattle.reading.specs.declared.name.Named.the-variants as named
 use Rattle.reading.specs.Service.{guardWith, refusedWith, unnamed}
@@ -33,16 +30,13 @@ pub record GuardRead (text : List ℕ) (g : Guard) (u : List Flag) (r : Parsed) 
   pub written : take (3 * connectives g) out ≡ numbers (triplets 0 g)
   pub few : length u ≤ flagCeiling
   pub short : connectives g ≤ connectiveCeiling
+  pub table : length codes ≡ codesRoom
+  pub room : length out ≡ 3 * connectiveCeiling
 
 -- what parse answers, and what the lent tables then hold
 abbrev pub ParseSays : List ℕ → Reading → Parsed → List ℕ → List ℕ → Type 0
 ParseSays text (refusal k p) r codes out = r ≡ refusedWith k p
 ParseSays text (guard g u) r codes out = GuardRead text g u r codes out
-
--- the refusal of an operand, passed on
-abbrev pub unreadAs : Operand → Parsed
-unreadAs (operand.Refused f) = parsed.Refused f
-unreadAs (operand.Found p) = refusedWith 5 (p .at .token .start)
 
 -- a guard that the text ends after
 abbrev pub endedAs : Part → Parsed
@@ -55,4 +49,5 @@ pub record Spans (codes : List ℕ) (k : ℕ) : Type 0 where
 
 -- the part that code i of the table is, i counted from 1
 abbrev pub namedIn : List ℕ → ℕ → ℕ → Named
-namedIn codes k i = choose (ltb 0 i) (choose (leb i k) (named.Part (startOf codes (i - 1)) (endOf codes (i - 1) - startOf codes (i - 1))) (unnamed 11 0)) (unnamed 11 0)
+namedIn codes k i = choose (ltb 0 i) (choose (leb i k) (named.Part (startOf codes (i - 1)) (endOf codes (i - 1) - startOf codes (i - 1)))
+    (unnamed 11 0)) (unnamed 11 0)

@@ -1,4 +1,5 @@
 -- `guard_check::check::check` meets its contract: the ceilings refuse first, then parse's refusal or the decision on its tables is the verdict.
+use mathlib.Core.Path.{sym}
 use native.Mathlib.Omega.{arith}
 use Rattle.notation.specs.Reading.{reading}
 use Rattle.reading.proofs.Serving.{guard-found, refusal-found}
@@ -20,12 +21,6 @@ returns-2 c =
     let if2· = c .if2 in
     too-deep (args· .text .now) (args· .depth) (omega (arith, if1· .left)) (omega (arith, if2· .taken))
 
-slice-aggregate-parse : tie.Need-slice-aggregate-parse
-slice-aggregate-parse c = search needs
-
-slice-aggregate-parse-2 : tie.Need-slice-aggregate-parse-2
-slice-aggregate-parse-2 c = search needs
-
 parse-requires : tie.Need-parse-requires
 parse-requires c κs = search needs
 
@@ -36,50 +31,54 @@ enum-known-parsed-2 : tie.Need-enum-known-parsed-2
 enum-known-parsed-2 c = search needs
 
 slice-aggregate-answer : tie.Need-slice-aggregate-answer
-slice-aggregate-answer c = search needs
+slice-aggregate-answer c =
+    let args· = c .before .before .before .before .before .before .before .before .before .before .args in
+    let parse· = c .before .before .before .before .parse in
+    let parsed2· = c .before .before .parsed2 in
+    sym ((guard-found (args· .text .now) (reading (args· .text .now)) (parse· .result) (parse· .last .1 .0) (parse· .last .1 .1 .0) (parse· .ensures) (parsed2· .given .0 .0) (parsed2· .given .1)) .read .room)
 
 answer-requires : tie.Need-answer-requires
 answer-requires c κs =
-    let args· = c .before .before .before .before .before .before .before .before .before .before .before .before .args in
-    let parse· = c .before .before .before .before .before .before .parse in
+    let args· = c .before .before .before .before .before .before .before .before .before .before .args in
+    let parse· = c .before .before .before .before .parse in
     let parsed2· = c .before .before .parsed2 in
-    let triplets2· = c .before .before .before .before .triplets2 in
     let text = args· .text .now in
     let codes = parse· .last .1 .0 in
     let out = parse· .last .1 .1 .0 in
     let x = parsed2· .given .0 .0 in
-    from-tables text codes out x (guard-found text (reading text) (parse· .result) codes out (parse· .ensures) x (parsed2· .given .1)) (omega (arith, triplets2· .given))
+    let f = guard-found text (reading text) (parse· .result) codes out (parse· .ensures) x (parsed2· .given .1) in
+    from-tables text codes out x f (omega (arith, f .read .room))
 
 verdict-of-requires : tie.Need-verdict-of-requires
 verdict-of-requires c κs = search needs
 
 returns-3 : tie.Need-returns-3
 returns-3 c =
-    let args· = c .before .before .before .before .before .before .before .before .before .before .before .args in
+    let args· = c .before .before .before .before .before .before .before .before .before .args in
     let parsed· = c .before .parsed in
-    let if1· = c .before .before .before .before .before .before .before .before .before .if1 in
-    let if2· = c .before .before .before .before .before .before .before .before .if2 in
-    let parse· = c .before .before .before .before .before .parse in
+    let if1· = c .before .before .before .before .before .before .before .if1 in
+    let if2· = c .before .before .before .before .before .before .if2 in
+    let parse· = c .before .before .before .parse in
     let text = args· .text .now in
     let f = parsed· .given .0 .0 in
     refused-too text (args· .depth) (omega (arith, if1· .left)) (omega (arith, if2· .left)) f (refusal-found text (reading text) (parse· .result) (parse· .last .1 .0) (parse· .last .1 .1 .0) (parse· .ensures) f (parsed· .given .1))
 
 returns-4 : tie.Need-returns-4
 returns-4 c =
-    let args· = c .before .before .before .before .before .before .before .before .before .before .before .before .before .before .args in
-    let parse· = c .before .before .before .before .before .before .before .before .parse in
+    let args· = c .before .before .before .before .before .before .before .before .before .before .before .before .args in
+    let parse· = c .before .before .before .before .before .before .parse in
     let parsed2· = c .before .before .before .before .parsed2 in
-    let if1· = c .before .before .before .before .before .before .before .before .before .before .before .before .if1 in
-    let if2· = c .before .before .before .before .before .before .before .before .before .before .before .if2 in
-    let triplets2· = c .before .before .before .before .before .before .triplets2 in
+    let if1· = c .before .before .before .before .before .before .before .before .before .before .if1 in
+    let if2· = c .before .before .before .before .before .before .before .before .before .if2 in
     let answer· = c .before .answer in
     let verdict-of· = c .verdict-of in
     let text = args· .text .now in
     let codes = parse· .last .1 .0 in
     let out = parse· .last .1 .1 .0 in
     let x = parsed2· .given .0 .0 in
+    let f = guard-found text (reading text) (parse· .result) codes out (parse· .ensures) x (parsed2· .given .1) in
     tables-say text (args· .depth) (omega (arith, if1· .left)) (omega (arith, if2· .left)) codes out x
-    (guard-found text (reading text) (parse· .result) codes out (parse· .ensures) x (parsed2· .given .1)) (omega (arith, triplets2· .given))
+    f (omega (arith, f .read .room))
     (answer· .result) (answer· .ensures) (verdict-of· .result) (verdict-of· .ensures)
 
 pub check-spec : {M : Type 1} → statement M
@@ -88,8 +87,6 @@ check-spec =
     (tie.spec
     returns
     returns-2
-    slice-aggregate-parse
-    slice-aggregate-parse-2
     parse-requires
     enum-known-parsed
     enum-known-parsed-2
