@@ -12,6 +12,7 @@ use lib.Count.{trailingZeros}
 use Rattle.truth.specs.Value.{table}
 use Rattle.ground.specs.Bits.{bit}
 use Rattle.notation.specs.Tokens.{same}
+use Rattle.rows.specs.contracts.Rows.{wordBits, allOnes}
 
 -- bit i of a shifted word is bit a + i of the word
 pub bit-shifted : (w a i : ℕ) → bit (w / 2 ^ a) i ≡ bit w (a + i)
@@ -157,10 +158,10 @@ every-at p (suc k) t i h =
     (λ (l : i < k). every-at p k (s .1) i l)
     (eq-or-lt-of-le (le-of-suc-le-suc h))
 
-ones-all : T (every (λ k. bit (2 ^ 64 - 1) k) 64)
+ones-all : T (every (λ k. bit allOnes k) wordBits)
 unfolding every bit
 ones-all = tt
 
 -- every bit of the word of all ones is set
-pub bit-ones : (i : ℕ) → i < 64 → bit (2 ^ 64 - 1) i ≡ true
-bit-ones i h = every-at (λ k. bit (2 ^ 64 - 1) k) 64 ones-all i h
+pub bit-ones : (i : ℕ) → i < wordBits → bit allOnes i ≡ true
+bit-ones i h = every-at (λ k. bit allOnes k) wordBits ones-all i h

@@ -7,7 +7,16 @@ ghost use lib.Bits.{bitOr, bitXor};
 ghost use Rattle.notation.specs.Ceilings.{flagCeiling, connectiveCeiling};
 ghost use Rattle.notation.specs.Triplets.{tripletVariable};
 ghost use Rattle.notation.specs.contracts.Shape.{Shape, yAt, zAt};
-ghost use Rattle.rows.specs.contracts.Rows.{turned, RowMade, TripletMade, FlagRows, Evaluated, WordOf, FlagMade, FlagsMade};
+ghost use Rattle.rows.specs.contracts.Rows.{wordBits, allOnes, turned, RowMade, TripletMade, FlagRows, Evaluated, WordOf, FlagMade, FlagsMade};
+
+// Flags whose states one word holds.
+pub const WORD_FLAGS: usize = 6;
+
+// Bits of a word, one for each of those states.
+pub const WORD_BITS: u64 = 64;
+
+// The word of all ones.
+pub const ONES: u64 = 18446744073709551615;
 
 // All ones for a negated literal, else zero.
 pub fn turn(l: u16) -> u64
@@ -16,7 +25,7 @@ pub fn turn(l: u16) -> u64
     if l % 2 == 0 {
         return 0;
     }
-    18446744073709551615
+    ONES
 }
 
 // The row from x on becomes that from y on or that from z on, each turned first.
@@ -75,7 +84,7 @@ pub fn evaluate(xs: &[u16], count: usize, n: usize, rows: &mut [u64], width: usi
 }
 
 // Bit p of the numbers 0 to 63, for each p below 6.
-const LOW: [u64; 6] = [
+const LOW: [u64; WORD_FLAGS] = [
     0xAAAAAAAAAAAAAAAA,
     0xCCCCCCCCCCCCCCCC,
     0xF0F0F0F0F0F0F0F0,
@@ -86,21 +95,21 @@ const LOW: [u64; 6] = [
 
 // Bit p of the 64 states of word w.
 fn flag_word(p: usize, w: usize) -> u64
-    requires { ⌜ p < 64 ⌝ }
+    requires { ⌜ p < wordBits ⌝ }
     ensures { λ r. ⌜ WordOf p w r ⌝ }
 {
-    if p < 6 {
+    if p < WORD_FLAGS {
         return LOW[p];
     }
-    if (w >> (p - 6)) % 2 == 0 {
+    if (w >> (p - WORD_FLAGS)) % 2 == 0 {
         return 0;
     }
-    18446744073709551615
+    ONES
 }
 
 // Makes the row, from x on, of the flag that is bit p of a state.
 fn flag_row(rows: &mut [u64], x: usize, p: usize, width: usize)
-    requires { ⌜ (p < 64) × (x + width ≤ length (now rows)) ⌝ }
+    requires { ⌜ (p < wordBits) × (x + width ≤ length (now rows)) ⌝ }
     ensures { λ _. ⌜ FlagMade (now (rows .entry)) x p width (now (rows .exit)) ⌝ }
 {
     let mut w = 0;
@@ -114,18 +123,18 @@ fn flag_row(rows: &mut [u64], x: usize, p: usize, width: usize)
 // Makes the row of true.
 fn true_row(rows: &mut [u64], width: usize)
     requires { ⌜ width ≤ length (now rows) ⌝ }
-    ensures { λ _. ⌜ RowMade (now (rows .entry)) 0 width (λ _. 2 ^ 64 - 1) (now (rows .exit)) ⌝ }
+    ensures { λ _. ⌜ RowMade (now (rows .entry)) 0 width (λ _. allOnes) (now (rows .exit)) ⌝ }
 {
     let mut w = 0;
     while w < width {
-        rows[w] = 18446744073709551615;
+        rows[w] = ONES;
         w += 1;
     }
 }
 
 // Makes the rows of true and of n flags.
 pub fn flag_rows(rows: &mut [u64], n: usize, width: usize)
-    requires { ⌜ (n < 64) × (suc n * width ≤ length (now rows)) ⌝ }
+    requires { ⌜ (n < wordBits) × (suc n * width ≤ length (now rows)) ⌝ }
     ensures { λ _. ⌜ FlagsMade n width (now (rows .entry)) (now (rows .exit)) ⌝ }
 {
     true_row(rows, width);

@@ -19,7 +19,7 @@ use Rattle.gaps.specs.declared.writing.Found.{Found}
 use Rattle.gaps.specs.declared.writing.Found.the-variants.{Done, More}
 use Rattle.gaps.specs.Gaps.{falseFrom}
 use Rattle.notation.specs.Triplets.{tripletVariable}
-use Rattle.rows.specs.contracts.Rows.{FlagRows, FlagsMade}
+use Rattle.rows.specs.contracts.Rows.{wordBits, FlagRows, FlagsMade}
 use Rattle.gaps.specs.contracts.Rows.{Writes, since}
 use Rattle.fixing.specs.contracts.Fixing.{Fixed}
 use Rattle.search.specs.contracts.Walking.{Rows, Stretch, Walked}
@@ -153,8 +153,8 @@ pub half-upper : (m n width base h : ℕ) → suc m ≡ n → h ≡ 2 ^ m → St
 half-upper m n width base h e f st s a b = upper-bit m base (rw e (st .aligned)) s (omega arith) (omega arith)
 
 -- 1 shifted left
-pub shifted : (m : ℕ) → m < 64 → 1 * 2 ^ m % 2 ^ 64 ≡ 2 ^ m
-shifted m h = shl-exact {a = 1} 1 m 64 (omega arith) (omega arith) ∙ one-times (2 ^ m)
+pub shifted : (m : ℕ) → m < wordBits → 1 * 2 ^ m % 2 ^ wordBits ≡ 2 ^ m
+shifted m h = shl-exact {a = 1} 1 m wordBits (omega arith) (omega arith) ∙ one-times (2 ^ m)
   where
     one-times : (a : ℕ) → 1 * a ≡ a
     one-times a = omega arith
@@ -180,7 +180,7 @@ stretch-all n width h b =
     record { aligned = zero-mod (2 ^ n); small = omega (arith, pow-mono {i = n} {j = flagCeiling} h) }
 
 -- rows that hold the states of so many flags
-pub rows-all : (low most width : ℕ) (rows after : List ℕ) → low ≤ most → 2 ^ most ≤ 64 * width → tripletVariable (suc connectiveCeiling) * width ≤ length rows
+pub rows-all : (low most width : ℕ) (rows after : List ℕ) → low ≤ most → 2 ^ most ≤ wordBits * width → tripletVariable (suc connectiveCeiling) * width ≤ length rows
     → FlagsMade low width rows after → Rows low width after
 rows-all low most width rows after h b l f =
     record { enough = omega (arith, pow-mono {i = low} {j = most} h); long = rw (f .long) l; right = f .right }

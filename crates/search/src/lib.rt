@@ -5,11 +5,13 @@ use crate::walk::block;
 use crate::walk::walk;
 use gaps::writing::Found;
 use notation::ceilings::VARIABLES;
+use rows::WORD_FLAGS;
 use rows::flag_rows;
 ghost use Prim.Native.Nat.{_^_, _-_, _≤_, _<_};
 ghost use Rattle.truth.specs.contracts.Computed.{rootValue, Triplets};
 ghost use Rattle.gaps.specs.Gaps.{falseFrom};
 ghost use Rattle.gaps.specs.contracts.Rows.{Writes};
+ghost use Rattle.rows.specs.contracts.Rows.{wordFlags};
 
 // Words of the rows of all variables, at four and at 32 words to a row.
 const FOUR_WORDS: usize = 4 * VARIABLES;
@@ -24,7 +26,7 @@ const LITERALS: usize = 2 * VARIABLES;
 
 // At most 6 flags: one word to a row.
 fn narrow(xs: &[u16], count: usize, root: u16, n: usize, start: u64, out: &mut [u32]) -> Found
-    requires { ⌜ Triplets n (now xs) count root × (n ≤ 6) × (start ≤ 2 ^ n) ⌝ }
+    requires { ⌜ Triplets n (now xs) count root × (n ≤ wordFlags) × (start ≤ 2 ^ n) ⌝ }
     ensures { λ r. ⌜ Writes (now (out .entry)) 0 (falseFrom (rootValue n (now (xs .entry)) count root) start (2 ^ n - start)) r (now (out .exit)) ⌝ }
 {
     let mut rows = [72623859790382856u64; VARIABLES];
@@ -79,7 +81,7 @@ pub fn search(xs: &[u16], count: usize, root: u16, n: usize, start: u64, out: &m
     requires { ⌜ Triplets n (now xs) count root × (start ≤ 2 ^ n) ⌝ }
     ensures { λ r. ⌜ Writes (now (out .entry)) 0 (falseFrom (rootValue n (now (xs .entry)) count root) start (2 ^ n - start)) r (now (out .exit)) ⌝ }
 {
-    if n <= 6 {
+    if n <= WORD_FLAGS {
         return narrow(xs, count, root, n, start, out);
     }
     if n <= 8 {

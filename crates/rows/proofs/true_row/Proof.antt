@@ -2,13 +2,13 @@
 use Prim.Native.Nat.{_+_, _-_, _^_, _≤_}
 use mathlib.Core.Path.{_≡_, refl}
 use native.Mathlib.Omega.{arith}
-use Rattle.rows.specs.contracts.Rows.{RowMade}
+use Rattle.rows.specs.contracts.Rows.{allOnes, RowMade}
 use Rattle.rows.proofs.RowsMade.{row-none, row-more}
 use Rattle.rows.proofs.true_row.Statement.{statement}
 use Rattle.rows.proofs.true_row.Tie as tie
 
 abbrev Inv-loop : tie.InvT-loop
-Inv-loop rows₀ width w₀ rows w = RowMade rows₀ 0 w (λ _. 2 ^ 64 - 1) rows × (w ≤ width)
+Inv-loop rows₀ width w₀ rows w = RowMade rows₀ 0 w (λ _. allOnes) rows × (w ≤ width)
 
 abbrev μ-loop : tie.MeasureT-loop
 μ-loop rows₀ width w₀ rows w = width - w

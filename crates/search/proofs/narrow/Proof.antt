@@ -2,6 +2,7 @@
 use native.Mathlib.Omega.{arith}
 use borrow.Author.Needs.{needs}
 use Rattle.search.proofs.Walks.{searched, stretch-all, rows-all}
+use Rattle.rows.specs.contracts.Rows.{wordFlags}
 use Rattle.search.proofs.narrow.Statement.{statement}
 use Rattle.search.proofs.narrow.Tie as tie
 
@@ -18,7 +19,7 @@ block-requires : tie.Need-block-requires
 block-requires c κs =
     let pre· = c .before .before .before .before .before .before .before .pre in
     let flag-rows· = c .before .before .before .flag-rows in
-    (pre· .0, rows-all _ 6 _ _ _ (pre· .1) (omega arith) (omega arith) (flag-rows· .ensures), stretch-all _ _ (pre· .0 .flags) (omega arith), omega arith)
+    (pre· .0, rows-all _ wordFlags _ _ _ (pre· .1) (omega arith) (omega arith) (flag-rows· .ensures), stretch-all _ _ (pre· .0 .flags) (omega arith), omega arith)
 
 same-length : tie.Need-same-length
 same-length c = search needs

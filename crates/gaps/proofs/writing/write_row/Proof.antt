@@ -6,16 +6,17 @@ use borrow.Author.Needs.{needs}
 use Rattle.gaps.specs.contracts.Rows.{since}
 use Rattle.rows.proofs.Gates.{rows-apart}
 use Rattle.gaps.proofs.RowWriting.{Stretch, stretch-start, stretch-more, stretch-stop, stretch-done, rowValue, row-word, row-whole, words-within}
+use Rattle.rows.specs.contracts.Rows.{wordBits}
 use Rattle.gaps.proofs.writing.write_row.Statement.{statement}
 use Rattle.gaps.proofs.writing.write_row.Tie as tie
 
 abbrev Inv-loop : tie.InvT-loop
-Inv-loop rows root n width base start from out₀ x t live words w₀ m₀ out w m = Stretch (since start (rowValue rows root n width base)) base (64 * words) from out₀ out (64 * w) m × (w ≤ words)
+Inv-loop rows root n width base start from out₀ x t live words w₀ m₀ out w m = Stretch (since start (rowValue rows root n width base)) base (wordBits * words) from out₀ out (wordBits * w) m × (w ≤ words)
 
 abbrev μ-loop : tie.MeasureT-loop
 μ-loop rows root n width base start from out₀ x t live words w₀ m₀ out w m = words - w
 
-next : (w : ℕ) → 64 * (w + 1) ≡ 64 * w + 64
+next : (w : ℕ) → wordBits * (w + 1) ≡ wordBits * w + wordBits
 next w = omega arith
 
 cast-x : tie.Need-cast-x Inv-loop μ-loop
@@ -126,7 +127,7 @@ returns c =
     let turn· = c .before .before .before .before .before .before .before .before .before .before .before .turn in
     let live-word· = c .before .before .before .before .before .before .before .before .before .before .live-word in
     let write-from· = c .before .before .before .before .write-from in
-    rw (← row-whole (args· .rows .now) (args· .root) (args· .n) (args· .width) (args· .base) (args· .start)) (rw (← ap (λ u. 64 * u) (words-of· .ensures)) (stretch-stop _ _ _ _ _ _ _ _ (loop· .inv .0) 64 _ _ _ _ (enum-told· .given .1) (omega (arith, loop-test· .taken)) (rw (← row-word (args· .rows .now) (args· .root) (args· .n) (args· .width) (args· .base) (args· .start) (loop· .w) (turn· .result) (live-word· .result) (turn· .ensures) (live-word· .ensures) (omega (arith, loop-test· .taken, words-of· .ensures))) (write-from· .ensures))))
+    rw (← row-whole (args· .rows .now) (args· .root) (args· .n) (args· .width) (args· .base) (args· .start)) (rw (← ap (λ u. wordBits * u) (words-of· .ensures)) (stretch-stop _ _ _ _ _ _ _ _ (loop· .inv .0) wordBits _ _ _ _ (enum-told· .given .1) (omega (arith, loop-test· .taken)) (rw (← row-word (args· .rows .now) (args· .root) (args· .n) (args· .width) (args· .base) (args· .start) (loop· .w) (turn· .result) (live-word· .result) (turn· .ensures) (live-word· .ensures) (omega (arith, loop-test· .taken, words-of· .ensures))) (write-from· .ensures))))
 
 add-w : tie.Need-add-w Inv-loop μ-loop
 add-w c =
@@ -152,7 +153,7 @@ loop-again c =
     let turn· = c .before .before .before .before .before .before .before .before .before .before .before .before .turn in
     let live-word· = c .before .before .before .before .before .before .before .before .before .before .before .live-word in
     let words-of· = c .before .before .before .before .before .before .before .before .before .before .words-of in
-    (rw (next (loop· .w)) (stretch-more _ _ _ _ _ _ _ _ (loop· .inv .0) 64 _ _ _ (found· .given .1) (omega (arith, loop-test· .taken)) (write-from· .kept .1 .1 .1 .1 .0) (rw (← row-word (args· .rows .now) (args· .root) (args· .n) (args· .width) (args· .base) (args· .start) (loop· .w) (turn· .result) (live-word· .result) (turn· .ensures) (live-word· .ensures) (omega (arith, loop-test· .taken, words-of· .ensures))) (write-from· .ensures))), omega (arith, loop-test· .taken))
+    (rw (next (loop· .w)) (stretch-more _ _ _ _ _ _ _ _ (loop· .inv .0) wordBits _ _ _ (found· .given .1) (omega (arith, loop-test· .taken)) (write-from· .kept .1 .1 .1 .1 .0) (rw (← row-word (args· .rows .now) (args· .root) (args· .n) (args· .width) (args· .base) (args· .start) (loop· .w) (turn· .result) (live-word· .result) (turn· .ensures) (live-word· .ensures) (omega (arith, loop-test· .taken, words-of· .ensures))) (write-from· .ensures))), omega (arith, loop-test· .taken))
 
 same-length-2 : tie.Need-same-length-2 Inv-loop μ-loop
 same-length-2 c =
@@ -165,7 +166,7 @@ returns-2 c =
     let words-of· = c .before .before .words-of in
     let loop· = c .before .loop in
     let loop-test· = c .loop-test in
-    rw (← row-whole (args· .rows .now) (args· .root) (args· .n) (args· .width) (args· .base) (args· .start)) (rw (← ap (λ u. 64 * u) (words-of· .ensures)) (stretch-done _ _ _ _ _ _ _ _ (loop· .inv .0) (omega (arith, loop-test· .left))))
+    rw (← row-whole (args· .rows .now) (args· .root) (args· .n) (args· .width) (args· .base) (args· .start)) (rw (← ap (λ u. wordBits * u) (words-of· .ensures)) (stretch-done _ _ _ _ _ _ _ _ (loop· .inv .0) (omega (arith, loop-test· .left))))
 
 pub write-row-spec : {M : Type 1} → statement M
 write-row-spec =
