@@ -13,7 +13,7 @@ use lib.Dec.{T}
 use borrow.Author.Tests.{eq-eqb}
 use Rattle.ground.specs.Bits.{bit}
 use Rattle.truth.proofs.Literals.{parity}
-use Rattle.rows.specs.contracts.Rows.{wordBits, wordFlags, allOnes, inRow, WordOf, FlagMade, RowMade}
+use Rattle.rows.specs.contracts.Rows.{wordBits, wordFlags, allOnes, inRow, WordOf, RowMade}
 use Rattle.rows.proofs.Bits.{bit-shifted, bit-none, bit-ones, every, every-at}
 use Rattle.ground.proofs.Truths.{beq-eq}
 
@@ -66,24 +66,6 @@ word-zeros p w h e b i = bit-none b ∙ sym (outside p w b h i ∙ bit-even w (p
 pub word-ones : (p w : ℕ) → wordFlags ≤ p → (w / 2 ^ (p - wordFlags) % 2 ≡ 0 → ⊥) → WordOf p w allOnes
 word-ones p w h n b i = bit-ones b i ∙ sym (outside p w b h i ∙ bit-odd w (p - wordFlags) n)
 
-pub flag-none : (rows : List ℕ) (x p : ℕ) → FlagMade rows x p 0 rows
-flag-none rows x p = record { long = refl; made = λ w h. absurd (omega arith); kept = λ k h. refl }
-
-pub flag-more : (rows rows′ : List ℕ) (x p w v : ℕ) → FlagMade rows x p w rows′ → x + w < length rows′ → WordOf p w v
-    → FlagMade rows x p (w + 1) (set rows′ (x + w) v)
-flag-more rows rows′ x p w v m h e =
-    record {
-      long = length-set rows′ (x + w) v ∙ m .long;
-      made = λ u q. ⊎-elim
-          (λ (a : u ≡ w). subst (λ k. WordOf p k (getD (set rows′ (x + w) v) (x + k) 0)) (sym a) (subst (WordOf p w) (sym (getD-set-same rows′ (x + w) v 0 h)) e))
-          (λ (a : u < w). subst (WordOf p u) (sym (getD-set-other rows′ (x + w) (x + u) v 0 (λ (z : x + u ≡ x + w). omega arith))) (m .made u a))
-          (eq-or-lt-of-le (last u q));
-      kept = λ k q. getD-set-other rows′ (x + w) k v 0 (λ (z : k ≡ x + w). omega arith) ∙ m .kept k q;
-    }
-  where
-    last : (u : ℕ) → u < w + 1 → u ≤ w
-    last u q = omega arith
-
 -- the rows of true and of the first i of n flags are made
 pub record FirstFlags (n width i : ℕ) (rows after : List ℕ) : Type 0 where
   pub long : length after ≡ length rows
@@ -96,7 +78,7 @@ true-there rows width s e =
     let z : 0 * width ≡ 0 = omega arith in
     rw (z, e) (bit-ones (s % wordBits) (omega arith))
 
-pub first-none : (n width : ℕ) (rows after : List ℕ) → RowMade rows 0 width (λ _. allOnes) after → FirstFlags n width 0 after after
+pub first-none : (n width : ℕ) (rows after : List ℕ) → RowMade rows 0 width (λ _ r. r ≡ allOnes) after → FirstFlags n width 0 after after
 first-none n width rows after m =
     record { long = refl; top = λ s h. true-there after width s (m .made (s / wordBits) (omega arith)); flags = λ s j h p q. absurd (omega arith) }
 
@@ -111,10 +93,10 @@ row-kept : (rows after : List ℕ) (width s i j : ℕ) → s < wordBits * width 
 unfolding inRow
 row-kept rows after width s i j h b kept = ap (λ u. bit u (s % wordBits)) (kept (j * width + s / wordBits) (digits-lt b (omega arith)))
 
-pub first-more : (n width i p : ℕ) (rows rows′ after : List ℕ) → FirstFlags n width i rows rows′ → FlagMade rows′ ((i + 1) * width) p width after
+pub first-more : (n width i p : ℕ) (rows rows′ after : List ℕ) → FirstFlags n width i rows rows′ → RowMade rows′ ((i + 1) * width) width (WordOf p) after
     → p ≡ n - (i + 1) → FirstFlags n width (i + 1) rows after
 first-more n width i p rows rows′ after f made e =
-    let m : FlagMade rows′ ((i + 1) * width) (n - (i + 1)) width after = rw e at made in
+    let m : RowMade rows′ ((i + 1) * width) width (WordOf (n - (i + 1))) after = rw e at made in
     record {
       long = m .long ∙ f .long;
       top = λ s h. row-kept rows′ after width s (i + 1) 0 h (omega arith) (m .kept) ∙ f .top s h;

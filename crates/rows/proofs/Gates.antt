@@ -19,7 +19,7 @@ use Rattle.truth.specs.Value.{table}
 use Rattle.ground.specs.Bits.{bit}
 use Rattle.truth.specs.contracts.Computed.{literalValue, gate}
 use Rattle.truth.proofs.Literals.{parity}
-use Rattle.rows.specs.contracts.Rows.{wordBits, allOnes, inRow, turned, RowMade, TripletMade}
+use Rattle.rows.specs.contracts.Rows.{wordBits, allOnes, inRow, turned, RowMade, RowOf, TripletMade}
 use Rattle.rows.proofs.Bits.{bit-or, bit-xor, bit-none, bit-ones}
 
 same-false : (u : Bool) → not (table same u false) ≡ u
@@ -103,13 +103,13 @@ rows-apart v x width h = rw (← suc-mul v width) (mul-le-mul-right width h)
 
 module _ (xs : List ℕ) (j : ℕ) (rows : List ℕ) (width : ℕ) (after : List ℕ) where
   -- a row that is kept word by word is kept
-  kept-row : (x : ℕ) (word : ℕ → ℕ) → x ≡ tripletVariable (suc j) * width → RowMade rows x width word after
+  kept-row : (x : ℕ) (R : ℕ → ℕ → Type 0) → x ≡ tripletVariable (suc j) * width → RowMade rows x width R after
       → (s v : ℕ) → s < wordBits * width → v < tripletVariable (suc j) → inRow after width s v ≡ inRow rows width s v
   unfolding inRow
-  kept-row x word ex m s v h b = ap (λ u. bit u (s % wordBits)) (m .kept (v * width + s / wordBits) (rw ex (digits-lt b (omega arith))))
+  kept-row x R ex m s v h b = ap (λ u. bit u (s % wordBits)) (m .kept (v * width + s / wordBits) (rw ex (digits-lt b (omega arith))))
 
   pub or-made : (x ty tz : ℕ) → x ≡ tripletVariable (suc j) * width → ty ≡ turned (yAt xs j + 1) → tz ≡ turned (zAt xs j) → kindAt xs j ≡ 0
-      → RowMade rows x width (λ w. bitOr (bitXor (getD rows (yAt xs j / 2 * width + w) 0) ty) (bitXor (getD rows (zAt xs j / 2 * width + w) 0) tz)) after
+      → RowOf (λ a b. bitOr (bitXor a ty) (bitXor b tz)) rows x (yAt xs j / 2 * width) (zAt xs j / 2 * width) width after
       → TripletMade xs j rows width after
   unfolding inRow literalValue
   or-made x ty tz ex ey ez k m =
@@ -122,7 +122,7 @@ module _ (xs : List ℕ) (j : ℕ) (rows : List ℕ) (width : ℕ) (after : List
       }
 
   pub xor-made : (x ty tz : ℕ) → x ≡ tripletVariable (suc j) * width → ty ≡ turned (yAt xs j + 1) → tz ≡ turned (zAt xs j) → (kindAt xs j ≡ 0 → ⊥)
-      → RowMade rows x width (λ w. bitXor (bitXor (getD rows (yAt xs j / 2 * width + w) 0) (getD rows (zAt xs j / 2 * width + w) 0)) (bitXor ty tz)) after
+      → RowOf (λ a b. bitXor (bitXor a b) (bitXor ty tz)) rows x (yAt xs j / 2 * width) (zAt xs j / 2 * width) width after
       → TripletMade xs j rows width after
   unfolding inRow literalValue
   xor-made x ty tz ex ey ez k m =

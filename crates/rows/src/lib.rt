@@ -7,7 +7,7 @@ ghost use lib.Bits.{bitOr, bitXor};
 ghost use Rattle.notation.specs.Ceilings.{flagCeiling, connectiveCeiling};
 ghost use Rattle.notation.specs.Triplets.{tripletVariable};
 ghost use Rattle.notation.specs.contracts.Shape.{Shape, yAt, zAt};
-ghost use Rattle.rows.specs.contracts.Rows.{wordBits, allOnes, turned, RowMade, TripletMade, FlagRows, Evaluated, WordOf, FlagMade, FlagsMade};
+ghost use Rattle.rows.specs.contracts.Rows.{wordBits, allOnes, turned, RowMade, RowOf, TripletMade, FlagRows, Evaluated, WordOf, FlagsMade};
 
 // Flags whose states one word holds.
 pub const WORD_FLAGS: usize = 6;
@@ -31,7 +31,7 @@ pub fn turn(l: u16) -> u64
 // The row from x on becomes that from y on or that from z on, each turned first.
 fn or_row(rows: &mut [u64], x: usize, y: usize, z: usize, ty: u64, tz: u64, width: usize)
     requires { ⌜ (y + width ≤ x) × (z + width ≤ x) × (x + width ≤ length (now rows)) ⌝ }
-    ensures { λ _. ⌜ RowMade (now (rows .entry)) x width (λ w. bitOr (bitXor (getD (now (rows .entry)) (y + w) 0) ty) (bitXor (getD (now (rows .entry)) (z + w) 0) tz)) (now (rows .exit)) ⌝ }
+    ensures { λ _. ⌜ RowOf (λ a b. bitOr (bitXor a ty) (bitXor b tz)) (now (rows .entry)) x y z width (now (rows .exit)) ⌝ }
 {
     let mut w = 0;
     while w < width {
@@ -43,7 +43,7 @@ fn or_row(rows: &mut [u64], x: usize, y: usize, z: usize, ty: u64, tz: u64, widt
 // The row from x on becomes where those from y on and from z on differ, turned.
 fn xor_row(rows: &mut [u64], x: usize, y: usize, z: usize, t: u64, width: usize)
     requires { ⌜ (y + width ≤ x) × (z + width ≤ x) × (x + width ≤ length (now rows)) ⌝ }
-    ensures { λ _. ⌜ RowMade (now (rows .entry)) x width (λ w. bitXor (bitXor (getD (now (rows .entry)) (y + w) 0) (getD (now (rows .entry)) (z + w) 0)) t) (now (rows .exit)) ⌝ }
+    ensures { λ _. ⌜ RowOf (λ a b. bitXor (bitXor a b) t) (now (rows .entry)) x y z width (now (rows .exit)) ⌝ }
 {
     let mut w = 0;
     while w < width {
@@ -110,7 +110,7 @@ fn flag_word(p: usize, w: usize) -> u64
 // Makes the row, from x on, of the flag that is bit p of a state.
 fn flag_row(rows: &mut [u64], x: usize, p: usize, width: usize)
     requires { ⌜ (p < wordBits) × (x + width ≤ length (now rows)) ⌝ }
-    ensures { λ _. ⌜ FlagMade (now (rows .entry)) x p width (now (rows .exit)) ⌝ }
+    ensures { λ _. ⌜ RowMade (now (rows .entry)) x width (λ w r. WordOf p w r) (now (rows .exit)) ⌝ }
 {
     let mut w = 0;
     while w < width {
@@ -123,7 +123,7 @@ fn flag_row(rows: &mut [u64], x: usize, p: usize, width: usize)
 // Makes the row of true.
 fn true_row(rows: &mut [u64], width: usize)
     requires { ⌜ width ≤ length (now rows) ⌝ }
-    ensures { λ _. ⌜ RowMade (now (rows .entry)) 0 width (λ _. allOnes) (now (rows .exit)) ⌝ }
+    ensures { λ _. ⌜ RowMade (now (rows .entry)) 0 width (λ _ r. r ≡ allOnes) (now (rows .exit)) ⌝ }
 {
     let mut w = 0;
     while w < width {

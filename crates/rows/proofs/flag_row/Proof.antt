@@ -2,19 +2,19 @@
 use Prim.Native.Nat.{_-_, _≤_}
 use mathlib.Core.Path.{_≡_}
 use native.Mathlib.Omega.{arith}
-use Rattle.rows.specs.contracts.Rows.{FlagMade}
-use Rattle.rows.proofs.Flags.{flag-none, flag-more}
+use Rattle.rows.specs.contracts.Rows.{RowMade, WordOf}
+use Rattle.rows.proofs.RowsMade.{row-none, row-more}
 use Rattle.rows.proofs.flag_row.Statement.{statement}
 use Rattle.rows.proofs.flag_row.Tie as tie
 
 abbrev Inv-loop : tie.InvT-loop
-Inv-loop rows₀ x p width w₀ rows w = FlagMade rows₀ x p w rows × (w ≤ width)
+Inv-loop rows₀ x p width w₀ rows w = RowMade rows₀ x w (WordOf p) rows × (w ≤ width)
 
 abbrev μ-loop : tie.MeasureT-loop
 μ-loop rows₀ x p width w₀ rows w = width - w
 
 loop-holds : tie.Need-loop-holds Inv-loop μ-loop
-loop-holds c = (flag-none _ _ _, omega arith)
+loop-holds c = (row-none _ _ _, omega arith)
 
 flag-word-requires : tie.Need-flag-word-requires Inv-loop μ-loop
 flag-word-requires c κs =
@@ -67,7 +67,7 @@ loop-again c =
     let loop-test· = c .before .loop-test in
     let pre· = c .before .before .before .before .pre in
     let flag-word· = c .flag-word in
-    (flag-more _ _ _ _ _ _ (loop· .inv .0) (omega (arith, loop-test· .taken, loop· .inv .0 .long, loop· .inv .1, pre·)) (flag-word· .ensures), omega (arith, loop-test· .taken))
+    (row-more _ _ _ _ _ (WordOf _) (loop· .inv .0) (omega (arith, loop-test· .taken, loop· .inv .0 .long, loop· .inv .1, pre·)) (flag-word· .ensures), omega (arith, loop-test· .taken))
 
 same-length : tie.Need-same-length Inv-loop μ-loop
 same-length c =

@@ -8,7 +8,7 @@ use Rattle.rows.proofs.true_row.Statement.{statement}
 use Rattle.rows.proofs.true_row.Tie as tie
 
 abbrev Inv-loop : tie.InvT-loop
-Inv-loop rows₀ width w₀ rows w = RowMade rows₀ 0 w (λ _. allOnes) rows × (w ≤ width)
+Inv-loop rows₀ width w₀ rows w = RowMade rows₀ 0 w (λ _ r. r ≡ allOnes) rows × (w ≤ width)
 
 abbrev μ-loop : tie.MeasureT-loop
 μ-loop rows₀ width w₀ rows w = width - w

@@ -31,11 +31,15 @@ inRow rows width s v = bit (getD rows (v * width + s / wordBits) 0) (s % wordBit
 unfoldable pub turned : ℕ → ℕ
 turned l = choose (eqb (l % 2) 0) 0 allOnes
 
--- the row of words from x on is made, word by word, and no word before it is changed
-pub record RowMade (rows : List ℕ) (x width : ℕ) (word : ℕ → ℕ) (after : List ℕ) : Type 0 where
+-- the row of words from x on is made, so that R holds of each word's place and the word, and no word before it is changed
+pub record RowMade (rows : List ℕ) (x width : ℕ) (R : ℕ → ℕ → Type 0) (after : List ℕ) : Type 0 where
   pub long : length after ≡ length rows
-  pub made : (w : ℕ) → w < width → getD after (x + w) 0 ≡ word w
+  pub made : (w : ℕ) → w < width → R w (getD after (x + w) 0)
   pub kept : (k : ℕ) → k < x → getD after k 0 ≡ getD rows k 0
+
+-- each word of the row from x on is what an operation makes of those from y on and from z on
+abbrev pub RowOf : (ℕ → ℕ → ℕ) → List ℕ → ℕ → ℕ → ℕ → ℕ → List ℕ → Type 0
+RowOf op rows x y z width after = RowMade rows x width (λ w r. r ≡ op (getD rows (y + w) 0) (getD rows (z + w) 0)) after
 
 -- the row of triplet j is what its operands' rows make of it, in every state, and no row before it is changed
 pub record TripletMade (xs : List ℕ) (j : ℕ) (rows : List ℕ) (width : ℕ) (after : List ℕ) : Type 0 where
@@ -57,12 +61,6 @@ pub record Evaluated (n width : ℕ) (xs : List ℕ) (c : ℕ) (rows after : Lis
 -- the word holds bit p of each of the 64 states of word w
 abbrev pub WordOf : ℕ → ℕ → ℕ → Type 0
 WordOf p w r = (b : ℕ) → b < wordBits → bit r b ≡ bit (wordBits * w + b) p
-
--- the row of words from x on holds bit p of each state, and no word before it is changed
-pub record FlagMade (rows : List ℕ) (x p width : ℕ) (after : List ℕ) : Type 0 where
-  pub long : length after ≡ length rows
-  pub made : (w : ℕ) → w < width → WordOf p w (getD after (x + w) 0)
-  pub kept : (k : ℕ) → k < x → getD after k 0 ≡ getD rows k 0
 
 -- the rows of true and of n flags are made
 pub record FlagsMade (n width : ℕ) (rows after : List ℕ) : Type 0 where
