@@ -17,7 +17,7 @@ before : (j v width : ℕ) → v < tripletVariable (suc j) → v * width + width
 before j v width h = rows-apart v (flagCeiling + 1 + j) width (omega arith)
 
 within : (j width n : ℕ) → tripletVariable (suc (suc j)) * width ≤ n → (flagCeiling + 1 + j) * width + width ≤ n
-within j width n h = omega (arith, rows-apart (flagCeiling + 1 + j) (tripletVariable (suc (suc j))) width (omega arith))
+within j width n h = omega arith
 
 mul-y : tie.Need-mul-y
 mul-y c = search needs

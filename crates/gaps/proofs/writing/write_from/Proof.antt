@@ -28,10 +28,8 @@ sub-k c = search needs
 returns-2 : tie.Need-returns-2
 returns-2 c =
     let args· = c .before .before .before .args in
-    let if1· = c .before .if1 in
-    let if2· = c .if2 in
     let pre· = c .before .before .before .pre in
-    rw (since-none (args· .start) (marked (args· .word) (args· .base)) (args· .base) wordBits (omega (arith, if1· .left, if2· .taken))) (writes-none _ _ (pre· .0))
+    rw (since-none (args· .start) (marked (args· .word) (args· .base)) (args· .base) wordBits (omega arith)) (writes-none _ _ (pre· .0))
 
 shr-write-word : tie.Need-shr-write-word
 shr-write-word c = search needs

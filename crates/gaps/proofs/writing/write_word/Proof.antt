@@ -52,24 +52,13 @@ cast-out c =
     record { fits = omega (arith, within (c .before), pre· .1) }
 
 mul-out : tie.Need-mul-out Inv-loop μ-loop
-mul-out c =
-    let loop· = c .before .before .loop in
-    let if1· = c .if1 in
-    let good· = c .before .before .before .good in
-    record { fits = omega (arith, loop· .inv .room, loop· .inv .same, if1· .left, good·) }
+mul-out c = record { fits = omega arith }
 
 slice-write-out : tie.Need-slice-write-out Inv-loop μ-loop
-slice-write-out c =
-    let loop· = c .before .before .loop in
-    let if1· = c .if1 in
-    omega (arith, loop· .inv .room, if1· .left)
+slice-write-out c = omega arith
 
 add-m : tie.Need-add-m Inv-loop μ-loop
-add-m c =
-    let loop· = c .before .before .loop in
-    let if1· = c .if1 in
-    let good· = c .before .before .before .good in
-    record { fits = omega (arith, loop· .inv .room, loop· .inv .same, if1· .left, good·) }
+add-m c = record { fits = omega arith }
 
 add-at : tie.Need-add-at Inv-loop μ-loop
 add-at c =
