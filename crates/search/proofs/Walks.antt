@@ -4,10 +4,10 @@ use mathlib.Core.Path.{_≡_, refl, sym, ap, _∙_}
 use mathlib.Core.Bool.{Bool, true, false}
 use mathlib.Core.List.{List, _++_}
 use native.Mathlib.Omega.{arith}
-use native.Mathlib.Nat.{pow-suc, mul-comm, mul-assoc, suc-mul, zero-mod}
+use native.Mathlib.Nat.{pow-suc, mul-comm, mul-assoc, suc-mul, zero-mod, mul-le-mul-right}
 use native.Mathlib.Numerals.{add-one}
 use lib.ListN.{length}
-use lib.Pow.{low, high, pow-pos, pow-mono, shl-exact}
+use lib.Pow.{low, high, pow-pos, pow-add, pow-mono, shl-exact}
 use lib.Dec.{eqb, ltb}
 use Rattle.ground.specs.Choice.{choose}
 use Rattle.notation.specs.Ceilings.{flagCeiling, connectiveCeiling}
@@ -19,10 +19,10 @@ use Rattle.gaps.specs.declared.writing.Found.{Found}
 use Rattle.gaps.specs.declared.writing.Found.the-variants.{Done, More}
 use Rattle.gaps.specs.Gaps.{falseFrom}
 use Rattle.notation.specs.Triplets.{tripletVariable}
-use Rattle.rows.specs.contracts.Rows.{wordBits, FlagRows, FlagsMade}
+use Rattle.rows.specs.contracts.Rows.{wordBits, wordFlags, FlagRows, FlagsMade}
 use Rattle.gaps.specs.contracts.Rows.{Writes, since}
 use Rattle.fixing.specs.contracts.Fixing.{Fixed}
-use Rattle.search.specs.contracts.Walking.{Rows, Stretch, Walked}
+use Rattle.search.specs.contracts.Walking.{widest, Rows, Stretch, Walked}
 use Rattle.gaps.proofs.Ascending.{false-none, false-parts}
 use Rattle.gaps.proofs.Since.{since-same, since-none, since-whole}
 use Rattle.search.proofs.Blocks.{multiple}
@@ -175,7 +175,7 @@ pub searched : (v : ℕ → Bool) (start n low width : ℕ) (out out′ rows : L
 searched v start n low width out out′ rows r h w = rw (from-start v start (2 ^ n) h) at (w .writes)
 
 -- all states are a stretch
-pub stretch-all : (n width : ℕ) → n ≤ flagCeiling → width ≤ 32 → Stretch n width 0
+pub stretch-all : (n width : ℕ) → n ≤ flagCeiling → width ≤ 2 ^ widest → Stretch n width 0
 stretch-all n width h b =
     record { aligned = zero-mod (2 ^ n); small = omega (arith, pow-mono {i = n} {j = flagCeiling} h) }
 
@@ -184,3 +184,13 @@ pub rows-all : (low most width : ℕ) (rows after : List ℕ) → low ≤ most �
     → FlagsMade low width rows after → Rows low width after
 rows-all low most width rows after h b l f =
     record { enough = omega (arith, pow-mono {i = low} {j = most} h); long = rw (f .long) l; right = f .right }
+
+-- 2^more words hold the states of so many more flags than one word
+pub words-hold : (more : ℕ) → 2 ^ (wordFlags + more) ≤ wordBits * 2 ^ more
+words-hold more = omega (arith, pow-add 2 wordFlags more)
+
+-- where the rows of all variables fit, so do those of true and of the flags
+pub flags-fit : (n width long : ℕ) → n ≤ flagCeiling → tripletVariable (suc connectiveCeiling) * width ≤ long → suc n * width ≤ long
+flags-fit n width long h l =
+    let less : suc n ≤ tripletVariable (suc connectiveCeiling) = omega arith in
+    omega (arith, mul-le-mul-right width less)

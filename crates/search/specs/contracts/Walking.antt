@@ -11,6 +11,10 @@ use Rattle.gaps.specs.Gaps.{falseFrom}
 use Rattle.rows.specs.contracts.Rows.{wordBits, FlagRows}
 use Rattle.gaps.specs.contracts.Rows.{Writes, since}
 
+-- the widest rows have 2^widest words, and so hold the states of so many more flags than a word
+abbrev pub widest : ℕ
+widest = 5
+
 -- rows of so many words for all variables, with room for the states of so many flags, whose rows are right
 pub record Rows (low width : ℕ) (rows : List ℕ) : Type 0 where
   pub enough : 2 ^ low ≤ wordBits * width
