@@ -15,8 +15,7 @@ shl-width c = search needs
 flag-rows-requires : tie.Need-flag-rows-requires
 flag-rows-requires c κs =
     let pre· = c .before .before .before .before .pre in
-    let more· = c .before .before .before .before .args .more in
-    (omega arith, flags-fit _ _ _ (pre· .0 .flags) (omega (arith, shifted more· (omega arith))))
+    (omega arith, flags-fit _ _ _ (pre· .0 .flags) (omega arith))
 
 block-requires : tie.Need-block-requires
 block-requires c κs =
