@@ -1,8 +1,8 @@
 -- Bit i of a word, as a Bool: of a shifted word, of two words joined, of a word that is all ones or zero, and the lowest one that is set.
-use Prim.Native.Nat.{ℕ, zero, suc, _+_, _*_, _-_, _/_, _%_, _^_, _≤_, _<_, min, max}
+use Prim.Native.Nat.{ℕ, zero, suc, _+_, _*_, _/_, _%_, _^_, _≤_, _<_, min, max}
 use mathlib.Core.Path.{_≡_, refl, sym, _∙_}
 use mathlib.Core.Bool.{Bool, true, false, not, _&&_, _||_}
-use mathlib.Core.Logic.{_⊎_, inl, inr, ⊎-elim}
+use mathlib.Core.Logic.{⊎-elim}
 use native.Mathlib.Omega.{arith}
 use native.Mathlib.Nat.{pow-suc, zero-div, eq-or-lt-of-le, le-of-suc-le-suc}
 use lib.Dec.{T, eqb}
@@ -12,6 +12,7 @@ use lib.Count.{trailingZeros}
 use Rattle.truth.specs.Value.{table}
 use Rattle.ground.specs.Bits.{bit}
 use Rattle.notation.specs.Tokens.{same}
+use Rattle.ground.proofs.Cases.{digit, parity}
 use Rattle.rows.specs.contracts.Rows.{wordBits, allOnes}
 
 -- bit i of a shifted word is bit a + i of the word
@@ -21,12 +22,6 @@ bit-shifted w a i = rw (shr-shr w a i)
 
 pub bit-halved : (w i : ℕ) → bit (w / 2) i ≡ bit w (suc i)
 bit-halved w i = let e : suc i ≡ 1 + i = omega arith in rw e (bit-shifted w 1 i)
-
--- what a digit is
-digit : (d : ℕ) → d < 2 → (d ≡ 0) ⊎ (d ≡ 1)
-digit zero h = inl refl
-digit (suc zero) h = inr refl
-digit (suc (suc d)) h = absurd (omega arith)
 
 -- the lowest digits of two words, joined
 or-digit : (a b : ℕ) → a < 2 → b < 2 → eqb (max a b) 1 ≡ (eqb a 1 || eqb b 1)
@@ -116,7 +111,7 @@ lowest (suc k) w =
     ⊎-elim
     (λ (e : w % 2 ≡ 0). rw e (lowest-even w k (trailingZeros k (w / 2)) e (lowest k (w / 2))))
     (λ (e : w % 2 ≡ 1). rw e (lowest-odd w k e))
-    (digit (w % 2) (omega arith))
+    (parity w)
 
 -- a word of j digits that is not 0 has a set bit among them
 pub lowest-found : (j k w : ℕ) → j ≤ k → w < 2 ^ j → (w ≡ 0 → ⊥) → trailingZeros k w < j
@@ -128,7 +123,7 @@ lowest-found (suc j) (suc k) w l h n =
     ⊎-elim
     (λ (e : w % 2 ≡ 0). rw e (omega (arith, lowest-found j k (w / 2) (omega arith) (omega arith) (λ z. n (omega arith)))))
     (λ (e : w % 2 ≡ 1). rw e (omega arith))
-    (digit (w % 2) (omega arith))
+    (parity w)
 
 -- no bit of 0 is set
 pub bit-none : (i : ℕ) → bit 0 i ≡ false

@@ -1,18 +1,17 @@
 -- The rows of flags: bit p of each of the 64 states of a word.
 use Prim.Native.Nat.{ℕ, zero, suc, _+_, _*_, _-_, _/_, _%_, _^_, _≤_, _<_}
 use mathlib.Core.Path.{_≡_, refl, sym, ap, _∙_, subst}
-use mathlib.Core.Bool.{Bool, true, false, Bool·beq}
+use mathlib.Core.Bool.{true, false, Bool·beq}
 use mathlib.Core.List.{List, [], _∷_}
 use mathlib.Core.Logic.{⊎-elim}
 use native.Mathlib.Omega.{arith}
 use native.Mathlib.Nat.{eq-or-lt-of-le}
-use lib.ListN.{length, getD, set, length-set}
-use lib.Seq.{getD-set-same, getD-set-other}
+use lib.ListN.{length, getD}
 use lib.Arith.{digits-lt}
 use lib.Dec.{T}
 use borrow.Author.Tests.{eq-eqb}
 use Rattle.ground.specs.Bits.{bit}
-use Rattle.truth.proofs.Literals.{parity}
+use Rattle.ground.proofs.Cases.{parity}
 use Rattle.rows.specs.contracts.Rows.{wordBits, wordFlags, allOnes, inRow, WordOf, RowMade}
 use Rattle.rows.proofs.Bits.{bit-shifted, bit-none, bit-ones, every, every-at}
 use Rattle.ground.proofs.Truths.{beq-eq}

@@ -9,9 +9,9 @@ use native.Mathlib.Numerals.{add-one}
 use lib.ListN.{length}
 use lib.Pow.{low, high, pow-pos, pow-add, pow-mono, shl-exact}
 use lib.Dec.{eqb, ltb}
-use Rattle.ground.specs.Choice.{choose}
 use Rattle.notation.specs.Ceilings.{flagCeiling, connectiveCeiling}
 use Rattle.ground.specs.Bits.{bit}
+use Rattle.ground.proofs.Truths.{either-way}
 use Rattle.truth.specs.contracts.Computed.{computed, rootValue, Triplets}
 use Rattle.truth.proofs.Literals.{literal-even}
 use Rattle.truth.proofs.Computing.{flag-kept, true-at-start}
@@ -37,10 +37,6 @@ walked-before v start base n low width from out rows h b f =
 always-since : (start : ℕ) (v : ℕ → Bool) (s : ℕ) → v s ≡ true → since start v s ≡ true
 unfolding since
 always-since start v s e = rw e (either-way (ltb s start))
-  where
-    either-way : (b : Bool) → choose b true true ≡ true
-    either-way true = refl
-    either-way false = refl
 
 module _ (n : ℕ) (b : Bool) (xs : List ℕ) (count root : ℕ) (ys : List ℕ) (c r : ℕ) (f : Fixed n b xs count root ys c r) where
   fixed-value : (s : ℕ) → bit s n ≡ b → rootValue n ys c r s ≡ rootValue (suc n) xs count root s
