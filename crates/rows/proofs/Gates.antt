@@ -1,5 +1,5 @@
 -- The row of a triplet: word by word, what the rows of its operands make of it, is so in every state.
-use Prim.Native.Nat.{ℕ, zero, suc, _+_, _*_, _-_, _/_, _%_, _^_, _≤_, _<_}
+use Prim.Native.Nat.{ℕ, zero, suc, _+_, _*_, _/_, _%_, _≤_, _<_}
 use mathlib.Core.Path.{_≡_, refl, sym, ap, _∙_}
 use mathlib.Core.Bool.{Bool, true, false, not, _||_, Bool·not-not}
 use mathlib.Core.List.{List}
@@ -18,7 +18,7 @@ use Rattle.notation.specs.contracts.Shape.{kindAt, yAt, zAt}
 use Rattle.truth.specs.Value.{table}
 use Rattle.ground.specs.Bits.{bit}
 use Rattle.truth.specs.contracts.Computed.{literalValue, gate}
-use Rattle.truth.proofs.Literals.{parity}
+use Rattle.ground.proofs.Cases.{parity}
 use Rattle.rows.specs.contracts.Rows.{wordBits, allOnes, inRow, turned, RowMade, RowOf, TripletMade}
 use Rattle.rows.proofs.Bits.{bit-or, bit-xor, bit-none, bit-ones}
 

@@ -7,7 +7,7 @@ use gaps::writing::Found;
 use notation::ceilings::VARIABLES;
 use rows::WORD_FLAGS;
 use rows::flag_rows;
-ghost use Prim.Native.Nat.{suc, _+_, _*_, _^_, _-_, _≤_, _<_};
+ghost use Prim.Native.Nat.{suc, _+_, _*_, _^_, _-_, _≤_};
 ghost use lib.ListN.{length};
 ghost use Rattle.notation.specs.Ceilings.{connectiveCeiling};
 ghost use Rattle.notation.specs.Triplets.{tripletVariable};

@@ -1,5 +1,5 @@
 -- `rows::true_row` meets its contract: the words before w are made.
-use Prim.Native.Nat.{_+_, _-_, _^_, _≤_}
+use Prim.Native.Nat.{_+_, _-_, _≤_}
 use mathlib.Core.Path.{_≡_, refl}
 use native.Mathlib.Omega.{arith}
 use Rattle.rows.specs.contracts.Rows.{allOnes, RowMade}

@@ -1,5 +1,4 @@
 -- `writing::write_from` meets its contract: the start lies before the word, behind it or in it.
-use Prim.Native.Nat.{_-_}
 use native.Mathlib.Omega.{arith}
 use borrow.Author.Needs.{needs}
 use Rattle.gaps.proofs.Written.{writes-none}
