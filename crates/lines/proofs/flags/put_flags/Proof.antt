@@ -30,12 +30,11 @@ put-values-requires c κs =
     let args· = c .before .before .before .before .before .before .before .before .before .before .before .before .args in
     let parse· = c .before .before .before .before .before .before .before .parse in
     let parsed· = c .before .before .before .parsed in
-    let pre· = c .before .before .before .before .before .before .before .before .before .before .before .before .pre in
     let text = args· .text .now in
     let C = parse· .last .1 .0 in
     let O = parse· .last .1 .1 .0 in
     let t = parsed-table text (parsed· .given .0 .0) C O (guard-found text (reading text) (parse· .result) C O (parse· .ensures) (parsed· .given .0 .0) (parsed· .given .1)) in
-    (t, omega (arith, t .few, pre·))
+    (t, omega arith)
 
 returns : tie.Need-returns
 returns c =
