@@ -23,21 +23,21 @@ bit-shifted w a i = rw (shr-shr w a i)
 pub bit-halved : (w i : ℕ) → bit (w / 2) i ≡ bit w (suc i)
 bit-halved w i = let e : suc i ≡ 1 + i = omega arith in rw e (bit-shifted w 1 i)
 
+-- what holds of the four pairs of digits holds of every pair
+digits : (P : ℕ → ℕ → Type 0) → P 0 0 → P 0 1 → P 1 0 → P 1 1 → (a b : ℕ) → a < 2 → b < 2 → P a b
+digits P nn ny yn yy a b p q =
+    ⊎-elim
+    (λ (x : a ≡ 0). rw x (⊎-elim (λ (y : b ≡ 0). rw y nn) (λ (y : b ≡ 1). rw y ny) (digit b q)))
+    (λ (x : a ≡ 1). rw x (⊎-elim (λ (y : b ≡ 0). rw y yn) (λ (y : b ≡ 1). rw y yy) (digit b q)))
+    (digit a p)
+
 -- the lowest digits of two words, joined
 or-digit : (a b : ℕ) → a < 2 → b < 2 → eqb (max a b) 1 ≡ (eqb a 1 || eqb b 1)
-or-digit a b p q =
-    ⊎-elim
-    (λ (x : a ≡ 0). ⊎-elim (λ (y : b ≡ 0). rw (x, y)) (λ (y : b ≡ 1). rw (x, y)) (digit b q))
-    (λ (x : a ≡ 1). ⊎-elim (λ (y : b ≡ 0). rw (x, y)) (λ (y : b ≡ 1). rw (x, y)) (digit b q))
-    (digit a p)
+or-digit = digits (λ a b. eqb (max a b) 1 ≡ (eqb a 1 || eqb b 1)) refl refl refl refl
 
 xor-digit : (a b : ℕ) → a < 2 → b < 2 → eqb (differ a b) 1 ≡ not (table same (eqb a 1) (eqb b 1))
 unfolding table
-xor-digit a b p q =
-    ⊎-elim
-    (λ (x : a ≡ 0). ⊎-elim (λ (y : b ≡ 0). rw (x, y)) (λ (y : b ≡ 1). rw (x, y)) (digit b q))
-    (λ (x : a ≡ 1). ⊎-elim (λ (y : b ≡ 0). rw (x, y)) (λ (y : b ≡ 1). rw (x, y)) (digit b q))
-    (digit a p)
+xor-digit = digits (λ a b. eqb (differ a b) 1 ≡ not (table same (eqb a 1) (eqb b 1))) refl refl refl refl
 
 or-lowest : (a b : ℕ) → bitOr a b % 2 ≡ max (a % 2) (b % 2)
 or-lowest a b =
@@ -46,11 +46,7 @@ or-lowest a b =
     rw or-step (omega arith)
 
 xor-small : (a b : ℕ) → a < 2 → b < 2 → differ a b < 2
-xor-small a b p q =
-    ⊎-elim
-    (λ (x : a ≡ 0). rw x q)
-    (λ (x : a ≡ 1). ⊎-elim (λ (y : b ≡ 0). rw (x, y) (omega arith)) (λ (y : b ≡ 1). rw (x, y) (omega arith)) (digit b q))
-    (digit a p)
+xor-small = digits (λ a b. differ a b < 2) (omega arith) (omega arith) (omega arith) (omega arith)
 
 xor-lowest : (a b : ℕ) → bitXor a b % 2 ≡ differ (a % 2) (b % 2)
 xor-lowest a b =
@@ -62,11 +58,7 @@ unfolding bit
 bit-or a b i = rw (or-shr a b i, or-lowest (a / 2 ^ i) (b / 2 ^ i)) (or-digit (a / 2 ^ i % 2) (b / 2 ^ i % 2) (omega arith) (omega arith))
 
 and-digit : (a b : ℕ) → a < 2 → b < 2 → eqb (min a b) 1 ≡ (eqb a 1 && eqb b 1)
-and-digit a b p q =
-    ⊎-elim
-    (λ (x : a ≡ 0). ⊎-elim (λ (y : b ≡ 0). rw (x, y)) (λ (y : b ≡ 1). rw (x, y)) (digit b q))
-    (λ (x : a ≡ 1). ⊎-elim (λ (y : b ≡ 0). rw (x, y)) (λ (y : b ≡ 1). rw (x, y)) (digit b q))
-    (digit a p)
+and-digit = digits (λ a b. eqb (min a b) 1 ≡ (eqb a 1 && eqb b 1)) refl refl refl refl
 
 and-lowest : (a b : ℕ) → bitAnd a b % 2 ≡ min (a % 2) (b % 2)
 and-lowest a b =
