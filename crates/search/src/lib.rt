@@ -44,7 +44,8 @@ fn at_once(
     start: u64,
     out: &mut [u32],
 ) -> Found
-    requires { ⌜ Triplets n (now xs) count root × (n ≤ wordFlags + more) × (more ≤ widest) × (tripletVariable (suc connectiveCeiling) * 2 ^ more ≤ length (now rows)) × (start ≤ 2 ^ n) ⌝ }
+    requires { ⌜ Triplets n (now xs) count root × (n ≤ wordFlags + more) × (start ≤ 2 ^ n) ⌝ }
+    requires { ⌜ (more ≤ widest) × (tripletVariable (suc connectiveCeiling) * 2 ^ more ≤ length (now rows)) ⌝ }
     ensures { λ r. ⌜ Writes (now (out .entry)) 0 (falseFrom (rootValue n (now (xs .entry)) count root) start (2 ^ n - start)) r (now (out .exit)) ⌝ }
 {
     let width = 1 << more;

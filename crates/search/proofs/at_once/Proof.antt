@@ -15,7 +15,7 @@ shl-width c = search needs
 flag-rows-requires : tie.Need-flag-rows-requires
 flag-rows-requires c κs =
     let pre· = c .before .before .before .before .pre in
-    (omega arith, flags-fit _ _ _ (pre· .0 .flags) (omega arith))
+    (omega arith, flags-fit _ _ _ (pre· .0 .0 .flags) (omega arith))
 
 block-requires : tie.Need-block-requires
 block-requires c κs =
@@ -23,9 +23,9 @@ block-requires c κs =
     let more· = c .before .before .before .before .before .before .before .before .before .args .more in
     let flag-rows· = c .before .before .before .before .flag-rows in
     let e = shifted more· (omega arith) in (
-      pre· .0,
-      rows-all _ (wordFlags + more·) _ _ _ (pre· .1) (omega (arith, words-hold more·)) (omega arith) (flag-rows· .ensures),
-      stretch-all _ _ (pre· .0 .flags) (omega (arith, pow-mono {i = more·} {j = widest} (pre· .2))),
+      pre· .0 .0,
+      rows-all _ (wordFlags + more·) _ _ _ (pre· .0 .1) (omega (arith, words-hold more·)) (omega arith) (flag-rows· .ensures),
+      stretch-all _ _ (pre· .0 .0 .flags) (omega (arith, pow-mono {i = more·} {j = widest} (pre· .1 .0))),
       omega arith,
     )
 
@@ -38,7 +38,7 @@ same-length-2 c = search needs
 returns : tie.Need-returns
 returns c =
     let pre· = c .before .before .before .before .before .before .before .before .before .before .before .before .before .before .pre in
-    searched _ _ _ _ _ _ _ _ _ (pre· .4) (c .before .before .before .before .block .ensures)
+    searched _ _ _ _ _ _ _ _ _ (pre· .0 .2) (c .before .before .before .before .block .ensures)
 
 pub at-once-spec : {M : Type 1} → statement M
 at-once-spec =
