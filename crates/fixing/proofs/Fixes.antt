@@ -12,8 +12,10 @@ use Rattle.notation.specs.Triplets.{tripletVariable, negation}
 use Rattle.notation.specs.contracts.Shape.{Names, Shape, kindAt, yAt, zAt}
 use Rattle.ground.specs.Bits.{bit}
 use Rattle.truth.specs.contracts.Computed.{literalValue, gate, computed}
-use Rattle.truth.proofs.Literals.{parity, literal-even, literal-odd, literal-negation, literal-agrees}
-use Rattle.truth.proofs.Computing.{named-kept, named-cases, valued, computed-same, triplet-made, flag-kept, true-at-start, flag-at-start}
+use Rattle.ground.proofs.Cases.{parity}
+use Rattle.notation.proofs.Shaped.{negation-half}
+use Rattle.truth.proofs.Literals.{literal-even, literal-odd, literal-negation, literal-agrees}
+use Rattle.truth.proofs.Computing.{named-kept, named-cases, computed-same, triplet-made, flag-kept, true-at-start, flag-at-start}
 use Rattle.fixing.specs.contracts.Fixing.{Stands, Fixing, Fixed}
 
 pub named-more : (n j k l : ℕ) → j ≤ k → Names n j l → Names n k l
@@ -38,10 +40,6 @@ named-of n c y z r p q o =
 literal-two : (l x : ℕ) → l / 2 ≡ x → (l ≡ 2 * x) ⊎ (l ≡ 2 * x + 1)
 literal-two l x e = ⊎-elim (λ (p : l % 2 ≡ 0). inl (omega arith)) (λ (p : l % 2 ≡ 1). inr (omega arith)) (parity l)
 
-pub negation-of : (l : ℕ) → negation l / 2 ≡ l / 2
-unfolding negation
-negation-of l = omega arith
-
 -- what f and g say of every literal but those of a variable
 abbrev pub Alike : (ℕ → ℕ) → (ℕ → ℕ) → ℕ → Type 0
 Alike f g x = (l : ℕ) → (l / 2 ≡ x → ⊥) → g l ≡ f l
@@ -64,7 +62,7 @@ module _ (n : ℕ) (b : Bool) (xs : List ℕ) (j : ℕ) (f : ℕ → ℕ) (c : �
     new-named l e =
         ⊎-elim
         (λ (p : l ≡ 2 * tripletVariable (suc j)). rw (p, even) named)
-        (λ (p : l ≡ 2 * tripletVariable (suc j) + 1). rw (p, odd, negation-of t) named)
+        (λ (p : l ≡ 2 * tripletVariable (suc j) + 1). rw (p, odd, negation-half t) named)
         (literal-two l (tripletVariable (suc j)) e)
 
     new-valued : (s l : ℕ) → bit s n ≡ b → l / 2 ≡ tripletVariable (suc j)

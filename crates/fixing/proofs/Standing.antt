@@ -15,10 +15,11 @@ use Rattle.truth.specs.Value.{table}
 use Rattle.truth.specs.contracts.Computed.{literalValue, gate}
 use Rattle.truth.proofs.Literals.{literal-even, literal-odd, literal-negation}
 use Rattle.notation.specs.Ceilings.{flagCeiling}
+use Rattle.notation.proofs.Shaped.{negation-half}
 use Rattle.notation.specs.contracts.Shape.{Names, kindAt, yAt, zAt}
 use Rattle.fixing.specs.contracts.Fixing.{Stands, Simplified, Put, StartedBy, TripletFixed, Fixing}
 use Rattle.truth.proofs.Computing.{named-below}
-use Rattle.fixing.proofs.Fixes.{negation-of, Started, fixing-stands, fixing-new}
+use Rattle.fixing.proofs.Fixes.{Started, fixing-stands, fixing-new}
 
 module _ (v : ℕ → Bool) (t : v 0 ≡ true) where
   value-true : literalValue v 0 ≡ true
@@ -84,7 +85,7 @@ module _ (y z : ℕ) where
   pub implies-z-false : (r : ℕ) → z ≡ 1 → r ≡ negation y → Stands 0 y z r
   unfolding gate
   implies-z-false r e n =
-      record { value = λ v t. rw (e, n, literal-negation v y, value-false v t) (implies-false (literalValue v y)); of = inr (inl (rw n (negation-of y))) }
+      record { value = λ v t. rw (e, n, literal-negation v y, value-false v t) (implies-false (literalValue v y)); of = inr (inl (rw n (negation-half y))) }
 
   pub implies-equal : y ≡ z → Stands 0 y z 0
   unfolding gate
@@ -101,7 +102,7 @@ module _ (y z : ℕ) where
 
   pub same-y-false : (r : ℕ) → y ≡ 1 → r ≡ negation z → Stands 1 y z r
   unfolding gate table
-  same-y-false r e n = record { value = λ v t. rw (e, n, literal-negation v z, value-false v t); of = inr (inr (rw n (negation-of z))) }
+  same-y-false r e n = record { value = λ v t. rw (e, n, literal-negation v z, value-false v t); of = inr (inr (rw n (negation-half z))) }
 
   pub same-z-true : z ≡ 0 → Stands 1 y z y
   unfolding gate
@@ -110,7 +111,7 @@ module _ (y z : ℕ) where
   pub same-z-false : (r : ℕ) → z ≡ 1 → r ≡ negation y → Stands 1 y z r
   unfolding gate
   same-z-false r e n =
-      record { value = λ v t. rw (e, n, literal-negation v y, value-false v t) (same-false (literalValue v y)); of = inr (inl (rw n (negation-of y))) }
+      record { value = λ v t. rw (e, n, literal-negation v y, value-false v t) (same-false (literalValue v y)); of = inr (inl (rw n (negation-half y))) }
 
   pub same-equal : y ≡ z → Stands 1 y z 0
   unfolding gate
@@ -130,22 +131,13 @@ put-made to j t x u e h n =
       others = λ l a. getD-set-other (set to x t) (x + 1) l u 0 (λ (z : l ≡ x + 1). a (omega arith)) ∙ getD-set-other to x l t 0 (λ (z : l ≡ x). a (omega arith));
     }
 
--- the table at the start, below l
-pub record Filled (n : ℕ) (b : Bool) (to after : List ℕ) (l : ℕ) : Type 0 where
-  pub long : length after ≡ length to
-  pub top : getD after 0 0 ≡ 0
-  pub bottom : getD after 1 0 ≡ 1
-  pub first : getD after 2 0 ≡ choose b 0 1
-  pub not-first : getD after 3 0 ≡ choose b 1 0
-  pub others : (k : ℕ) → 4 ≤ k → k < l → getD after k 0 ≡ k - 2
-
 one-less : (b : Bool) → 1 - choose b 0 1 ≡ choose b 1 0
 one-less true = refl
 one-less false = refl
 
-pub filled-four : (n : ℕ) (b : Bool) (to : List ℕ) (f : ℕ) → 4 ≤ length to → f ≡ choose b 0 1
-    → Filled n b (set (set (set (set to 0 0) 1 1) 2 f) 3 (1 - f)) (set (set (set (set to 0 0) 1 1) 2 f) 3 (1 - f)) 4
-filled-four n b to f h e =
+pub filled-four : (b : Bool) (to : List ℕ) (f : ℕ) → 4 ≤ length to → f ≡ choose b 0 1
+    → StartedBy b (set (set (set (set to 0 0) 1 1) 2 f) 3 (1 - f)) (set (set (set (set to 0 0) 1 1) 2 f) 3 (1 - f)) 4
+filled-four b to f h e =
     let to₁ : List ℕ = set to 0 0 in
     let to₂ : List ℕ = set to₁ 1 1 in
     let to₃ : List ℕ = set to₂ 2 f in
@@ -161,8 +153,9 @@ filled-four n b to f h e =
       others = λ k p q. absurd (omega arith);
     }
 
-pub filled-more : (n : ℕ) (b : Bool) (to after : List ℕ) (l v : ℕ) → Filled n b to after l → 4 ≤ l → l < length after → v ≡ l - 2 → Filled n b to (set after l v) (l + 1)
-filled-more n b to after l v f h w e =
+pub filled-more : (b : Bool) (to after : List ℕ) (l v : ℕ) → StartedBy b to after l → 4 ≤ l → l < length after → v ≡ l - 2
+    → StartedBy b to (set after l v) (l + 1)
+filled-more b to after l v f h w e =
     record {
       long = length-set after l v ∙ f .long;
       top = getD-set-other after l 0 v 0 (λ (z : 0 ≡ l). omega arith) ∙ f .top;
@@ -191,7 +184,7 @@ constant-of true = (refl, refl)
 constant-of false = (refl, refl)
 
 -- the table at the start says of each literal what it should
-pub started : (n : ℕ) (b : Bool) (to after : List ℕ) → StartedBy n b to after → Started n b (λ l. getD after l 0)
+pub started : (n : ℕ) (b : Bool) (to after : List ℕ) → StartedBy b to after (2 * n + 4) → Started n b (λ l. getD after l 0)
 started n b to after s =
     record {
       top = s .top;
@@ -199,11 +192,11 @@ started n b to after s =
       first = λ v t. rw (s .first) (constant-value v t b);
       not-first = λ v t. rw (s .not-first) (constant-other v t b);
       constant = (rw (s .first) (constant-of b .0), rw (s .not-first) (constant-of b .1));
-      others = λ l p q. s .others l p q;
+      others = λ l p q. s .others l p (omega arith);
     }
 
-pub started-by : (n : ℕ) (b : Bool) (to to′ after : List ℕ) (l : ℕ) → Filled n b to′ after l → 2 * n + 4 ≤ l → length to′ ≡ length to → StartedBy n b to after
-started-by n b to to′ after l f h e =
+pub started-by : (b : Bool) (to to′ after : List ℕ) (l m : ℕ) → StartedBy b to′ after l → m ≤ l → length to′ ≡ length to → StartedBy b to after m
+started-by b to to′ after l m f h e =
     record { long = f .long ∙ e; top = f .top; bottom = f .bottom; first = f .first; not-first = f .not-first; others = λ k p q. f .others k p (omega arith) }
 
 -- a literal that is x or stands for a triplet is small where x and the operands are

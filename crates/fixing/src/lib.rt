@@ -108,7 +108,7 @@ fn constant(b: bool) -> u16
 // What becomes of true and of the flags: the first is b, each further one is one less.
 fn start(to: &mut [u16], n: usize, b: bool)
     requires { ⌜ (n < flagCeiling) × (2 * tripletVariable 1 ≤ length (now to)) ⌝ }
-    ensures { λ _. ⌜ StartedBy n b (now (to .entry)) (now (to .exit)) ⌝ }
+    ensures { λ _. ⌜ StartedBy b (now (to .entry)) (now (to .exit)) (2 * n + 4) ⌝ }
 {
     let first = constant(b);
     to[0] = 0;

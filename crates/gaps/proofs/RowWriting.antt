@@ -16,7 +16,7 @@ use Rattle.truth.specs.contracts.Computed.{literalValue}
 use Rattle.gaps.specs.declared.writing.Found.{Found}
 use Rattle.gaps.specs.declared.writing.Found.the-variants.{Done, More}
 use Rattle.gaps.specs.Gaps.{falseFrom}
-use Rattle.rows.specs.contracts.Rows.{inRow, turned}
+use Rattle.rows.specs.contracts.Rows.{wordBits, wordFlags, inRow, turned}
 use Rattle.gaps.specs.contracts.Rows.{Writes, since, wordsOf, LiveWord}
 use Rattle.rows.proofs.Bits.{bit-and}
 use Rattle.rows.proofs.Gates.{turned-other}
@@ -80,46 +80,46 @@ dead : (l b : Bool) → not (not l && b) ≡ choose b l true
 dead l true = ap not (and-true (not l)) ∙ Bool·not-not l
 dead l false = ap not (and-false (not l))
 
-literal-in-row : (rows : List ℕ) (root width w i : ℕ) → i < 64
-    → literalValue (inRow rows width (64 * w + i)) root
+literal-in-row : (rows : List ℕ) (root width w i : ℕ) → i < wordBits
+    → literalValue (inRow rows width (wordBits * w + i)) root
     ≡ choose (eqb (root % 2) 0) (bit (getD rows (root / 2 * width + w) 0) i) (not (bit (getD rows (root / 2 * width + w) 0) i))
 unfolding literalValue inRow
 literal-in-row rows root width w i h =
-    let e : (64 * w + i) / 64 ≡ w = omega arith in
-    let f : (64 * w + i) % 64 ≡ i = omega arith in
+    let e : (wordBits * w + i) / wordBits ≡ w = omega arith in
+    let f : (wordBits * w + i) % wordBits ≡ i = omega arith in
     rw (e, f)
 
 module _ (rows : List ℕ) (root n width base start : ℕ) where
   -- a word of the row, turned and cut to what is live, stands for the states in which the literal is false
   pub row-word : (w t live : ℕ) → t ≡ turned (root + 1) → LiveWord n live → w < wordsOf n
-      → falseFrom (since start (marked (bitAnd (bitXor (getD rows (root / 2 * width + w) 0) t) live) (base + 64 * w))) (base + 64 * w) 64
-      ≡ falseFrom (since start (rowValue rows root n width base)) (base + 64 * w) 64
+      → falseFrom (since start (marked (bitAnd (bitXor (getD rows (root / 2 * width + w) 0) t) live) (base + wordBits * w))) (base + wordBits * w) wordBits
+      ≡ falseFrom (since start (rowValue rows root n width base)) (base + wordBits * w) wordBits
   unfolding rowValue
   row-word w t live e l h =
-      since-same start _ _ (base + 64 * w) 64 (λ s p q. at s p q)
+      since-same start _ _ (base + wordBits * w) wordBits (λ s p q. at s p q)
     where
-      at : (s : ℕ) → base + 64 * w ≤ s → s < base + 64 * w + 64
-          → marked (bitAnd (bitXor (getD rows (root / 2 * width + w) 0) t) live) (base + 64 * w) s ≡ choose (ltb (s - base) (2 ^ n)) (literalValue (inRow rows width (s - base)) root) true
+      at : (s : ℕ) → base + wordBits * w ≤ s → s < base + wordBits * w + wordBits
+          → marked (bitAnd (bitXor (getD rows (root / 2 * width + w) 0) t) live) (base + wordBits * w) s ≡ choose (ltb (s - base) (2 ^ n)) (literalValue (inRow rows width (s - base)) root) true
       at s p q =
-          let i : ℕ = s - (base + 64 * w) in
-          let b : i < 64 = omega arith in
-          let f : s - base ≡ 64 * w + i = omega arith in
+          let i : ℕ = s - (base + wordBits * w) in
+          let b : i < wordBits = omega arith in
+          let f : s - base ≡ wordBits * w + i = omega arith in
           rw (f, bit-and (bitXor (getD rows (root / 2 * width + w) 0) t) live i, l w i h b, e, turned-other root (getD rows (root / 2 * width + w) 0) i b, literal-in-row rows root width w i b)
-          (dead (choose (eqb (root % 2) 0) (bit (getD rows (root / 2 * width + w) 0) i) (not (bit (getD rows (root / 2 * width + w) 0) i))) (ltb (64 * w + i) (2 ^ n)))
+          (dead (choose (eqb (root % 2) 0) (bit (getD rows (root / 2 * width + w) 0) i) (not (bit (getD rows (root / 2 * width + w) 0) i))) (ltb (wordBits * w + i) (2 ^ n)))
 
-  words-enough : 2 ^ n ≤ 64 * wordsOf n
+  words-enough : 2 ^ n ≤ wordBits * wordsOf n
   words-enough =
       ⊎-elim
-      (λ (b : ltb n 6 ≡ true). let h : n < 6 = ltb-true n 6 b in rw (words-few n h) (omega (arith, pow-mono {i = n} {j = 6} (omega arith))))
-      (λ (b : ltb n 6 ≡ false). omega (arith, words-exact n (ltb-false n 6 b)))
-      (either (ltb n 6))
+      (λ (b : ltb n wordFlags ≡ true). let h : n < wordFlags = ltb-true n wordFlags b in rw (words-few n h) (omega (arith, pow-mono {i = n} {j = wordFlags} (omega arith))))
+      (λ (b : ltb n wordFlags ≡ false). omega (arith, words-exact n (ltb-false n wordFlags b)))
+      (either (ltb n wordFlags))
 
-  pub words-within : 2 ^ n ≤ 64 * width → wordsOf n ≤ width
+  pub words-within : 2 ^ n ≤ wordBits * width → wordsOf n ≤ width
   words-within h =
       ⊎-elim
-      (λ (b : ltb n 6 ≡ true). rw (words-few n (ltb-true n 6 b)) (omega (arith, pow-pos n)))
-      (λ (b : ltb n 6 ≡ false). omega (arith, words-exact n (ltb-false n 6 b)))
-      (either (ltb n 6))
+      (λ (b : ltb n wordFlags ≡ true). rw (words-few n (ltb-true n wordFlags b)) (omega (arith, pow-pos n)))
+      (λ (b : ltb n wordFlags ≡ false). omega (arith, words-exact n (ltb-false n wordFlags b)))
+      (either (ltb n wordFlags))
 
   row-live : (s : ℕ) → s - base < 2 ^ n → rowValue rows root n width base s ≡ literalValue (inRow rows width (s - base)) root
   unfolding rowValue
@@ -134,12 +134,12 @@ module _ (rows : List ℕ) (root n width base start : ℕ) where
       always false = refl
 
   -- the words hold the states of n flags
-  pub row-whole : falseFrom (since start (rowValue rows root n width base)) base (64 * wordsOf n)
+  pub row-whole : falseFrom (since start (rowValue rows root n width base)) base (wordBits * wordsOf n)
       ≡ falseFrom (since start (λ s. literalValue (inRow rows width (s - base)) root)) base (2 ^ n)
   row-whole =
       let v : ℕ → Bool = since start (rowValue rows root n width base) in
-      let h : 2 ^ n ≤ 64 * wordsOf n = words-enough in
-      let e : 64 * wordsOf n ≡ 2 ^ n + (64 * wordsOf n - 2 ^ n) = omega arith in
-      ap (falseFrom v base) e ∙ false-parts v base (2 ^ n) (64 * wordsOf n - 2 ^ n)
-      ∙ (rw (false-none v (base + 2 ^ n) (64 * wordsOf n - 2 ^ n) (λ s p q. row-dead s (omega arith))) (append-nil (falseFrom v base (2 ^ n))))
+      let h : 2 ^ n ≤ wordBits * wordsOf n = words-enough in
+      let e : wordBits * wordsOf n ≡ 2 ^ n + (wordBits * wordsOf n - 2 ^ n) = omega arith in
+      ap (falseFrom v base) e ∙ false-parts v base (2 ^ n) (wordBits * wordsOf n - 2 ^ n)
+      ∙ (rw (false-none v (base + 2 ^ n) (wordBits * wordsOf n - 2 ^ n) (λ s p q. row-dead s (omega arith))) (append-nil (falseFrom v base (2 ^ n))))
       ∙ since-same start (rowValue rows root n width base) (λ s. literalValue (inRow rows width (s - base)) root) base (2 ^ n) (λ s p q. row-live s (omega arith))

@@ -16,6 +16,7 @@ use Rattle.rows.proofs.Bits.{bit-shifted, bit-ones, every, every-at}
 use Rattle.gaps.proofs.Ascending.{false-same, false-none, false-parts}
 use Rattle.ground.proofs.Truths.{beq-eq}
 use Rattle.gaps.proofs.Words.{marked}
+use Rattle.rows.specs.contracts.Rows.{wordBits, wordFlags, allOnes}
 
 pub since-on : (start : ℕ) (v : ℕ → Bool) (s : ℕ) → start ≤ s → since start v s ≡ v s
 unfolding since
@@ -40,32 +41,32 @@ unfolding since
 since-same start v w lo k h = false-same (since start v) (since start w) lo k (λ s p q. ap (choose (ltb s start) true) (h s p q))
 
 -- a word of 64 digits has no bit from 64 on
-high-none : (w i : ℕ) → w < 2 ^ 64 → 64 ≤ i → bit w i ≡ false
+high-none : (w i : ℕ) → w < 2 ^ wordBits → wordBits ≤ i → bit w i ≡ false
 unfolding bit
 high-none w i h b =
     let z : 0 + i ≡ i = omega arith in
-    let m : w < 2 ^ (0 + i) = rw z (omega (arith, pow-mono {i = 64} {j = i} b)) in
+    let m : w < 2 ^ (0 + i) = rw z (omega (arith, pow-mono {i = wordBits} {j = i} b)) in
     let e : w / 2 ^ i ≡ 0 = omega (arith, shr-lt 0 i m) in
     rw e
 
 -- a word that the start cuts
-pub since-cut : (start word base : ℕ) → word < 2 ^ 64 → base < start → start - base < 64
-    → falseFrom (since start (marked word base)) base 64 ≡ falseFrom (marked (word / 2 ^ (start - base)) start) start 64
+pub since-cut : (start word base : ℕ) → word < 2 ^ wordBits → base < start → start - base < wordBits
+    → falseFrom (since start (marked word base)) base wordBits ≡ falseFrom (marked (word / 2 ^ (start - base)) start) start wordBits
 since-cut start word base h b c =
     let k : ℕ = start - base in
     let v : ℕ → Bool = marked word base in
     let w : ℕ → Bool = marked (word / 2 ^ k) start in
-    let e : 64 ≡ k + (64 - k) = omega arith in
-    let f : 64 ≡ (64 - k) + k = omega arith in
+    let e : wordBits ≡ k + (wordBits - k) = omega arith in
+    let f : wordBits ≡ (wordBits - k) + k = omega arith in
     let g : base + k ≡ start = omega arith in
-    let left : falseFrom (since start v) base 64 ≡ falseFrom v start (64 - k) =
-    ap (falseFrom (since start v) base) e ∙ false-parts (since start v) base k (64 - k)
-    ∙ (rw (since-none start v base k (omega arith), g) (since-whole start v start (64 - k) (omega arith))) in
-    let right : falseFrom w start 64 ≡ falseFrom w start (64 - k) =
-    ap (falseFrom w start) f ∙ false-parts w start (64 - k) k
-    ∙ (rw (false-none w (start + (64 - k)) k (λ s p q. ap not (bit-shifted word k (s - start) ∙ high-none word (k + (s - start)) h (omega arith))))
-    (append-nil (falseFrom w start (64 - k)))) in
-    left ∙ false-same v w start (64 - k) (λ s p q. ap not (along s p)) ∙ sym right
+    let left : falseFrom (since start v) base wordBits ≡ falseFrom v start (wordBits - k) =
+    ap (falseFrom (since start v) base) e ∙ false-parts (since start v) base k (wordBits - k)
+    ∙ (rw (since-none start v base k (omega arith), g) (since-whole start v start (wordBits - k) (omega arith))) in
+    let right : falseFrom w start wordBits ≡ falseFrom w start (wordBits - k) =
+    ap (falseFrom w start) f ∙ false-parts w start (wordBits - k) k
+    ∙ (rw (false-none w (start + (wordBits - k)) k (λ s p q. ap not (bit-shifted word k (s - start) ∙ high-none word (k + (s - start)) h (omega arith))))
+    (append-nil (falseFrom w start (wordBits - k)))) in
+    left ∙ false-same v w start (wordBits - k) (λ s p q. ap not (along s p)) ∙ sym right
   where
     along : (s : ℕ) → start ≤ s → bit word (s - base) ≡ bit (word / 2 ^ (start - base)) (s - start)
     along s p =
@@ -76,35 +77,35 @@ since-cut start word base h b c =
 abbrev pub few : List ℕ
 few = 1 ∷ 3 ∷ 15 ∷ 255 ∷ 65535 ∷ 4294967295 ∷ []
 
-few-right : T (every (λ n. every (λ b. Bool·beq (bit (getD few n 0) b) (ltb b (2 ^ n))) 64) 6)
+few-right : T (every (λ n. every (λ b. Bool·beq (bit (getD few n 0) b) (ltb b (2 ^ n))) wordBits) wordFlags)
 unfolding every bit
 few-right = tt
 
-few-bit : (n b : ℕ) → n < 6 → b < 64 → bit (getD few n 0) b ≡ ltb b (2 ^ n)
+few-bit : (n b : ℕ) → n < wordFlags → b < wordBits → bit (getD few n 0) b ≡ ltb b (2 ^ n)
 few-bit n b h i =
     beq-eq (bit (getD few n 0) b) (ltb b (2 ^ n))
-    (every-at (λ u. Bool·beq (bit (getD few n 0) u) (ltb u (2 ^ n))) 64
-    (subst T (sym (every-at (λ m. every (λ u. Bool·beq (bit (getD few m 0) u) (ltb u (2 ^ m))) 64) 6 few-right n h)) tt) b i)
+    (every-at (λ u. Bool·beq (bit (getD few n 0) u) (ltb u (2 ^ n))) wordBits
+    (subst T (sym (every-at (λ m. every (λ u. Bool·beq (bit (getD few m 0) u) (ltb u (2 ^ m))) wordBits) wordFlags few-right n h)) tt) b i)
 
-pub words-few : (n : ℕ) → n < 6 → wordsOf n ≡ 1
+pub words-few : (n : ℕ) → n < wordFlags → wordsOf n ≡ 1
 unfolding wordsOf
-words-few n h = rw (lt-ltb n 6 h)
+words-few n h = rw (lt-ltb n wordFlags h)
 
-pub words-many : (n : ℕ) → 6 ≤ n → wordsOf n ≡ 2 ^ (n - 6)
+pub words-many : (n : ℕ) → wordFlags ≤ n → wordsOf n ≡ 2 ^ (n - wordFlags)
 unfolding wordsOf
-words-many n h = rw (le-ltb n 6 h)
+words-many n h = rw (le-ltb n wordFlags h)
 
 -- from 6 flags on the words hold the states exactly
-pub words-exact : (n : ℕ) → 6 ≤ n → 64 * wordsOf n ≡ 2 ^ n
+pub words-exact : (n : ℕ) → wordFlags ≤ n → wordBits * wordsOf n ≡ 2 ^ n
 words-exact n h =
-    let e : n ≡ 6 + (n - 6) = omega arith in
-    rw (words-many n h) (sym (ap (λ u. 2 ^ u) e ∙ pow-add 2 6 (n - 6)))
+    let e : n ≡ wordFlags + (n - wordFlags) = omega arith in
+    rw (words-many n h) (sym (ap (λ u. 2 ^ u) e ∙ pow-add 2 wordFlags (n - wordFlags)))
 
-pub live-few : (n : ℕ) → n < 6 → LiveWord n (getD few n 0)
+pub live-few : (n : ℕ) → n < wordFlags → LiveWord n (getD few n 0)
 live-few n h w b p q =
     let z : w ≡ 0 = omega (arith, rw (words-few n h) at p) in
-    let e : 64 * w + b ≡ b = omega arith in
+    let e : wordBits * w + b ≡ b = omega arith in
     rw e (few-bit n b h q)
 
-pub live-all : (n : ℕ) → 6 ≤ n → LiveWord n (2 ^ 64 - 1)
-live-all n h w b p q = bit-ones b q ∙ sym (lt-ltb (64 * w + b) (2 ^ n) (omega (arith, words-exact n h)))
+pub live-all : (n : ℕ) → wordFlags ≤ n → LiveWord n allOnes
+live-all n h w b p q = bit-ones b q ∙ sym (lt-ltb (wordBits * w + b) (2 ^ n) (omega (arith, words-exact n h)))

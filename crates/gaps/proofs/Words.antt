@@ -15,6 +15,7 @@ use Rattle.ground.specs.Bits.{bit}
 use Rattle.gaps.specs.Gaps.{falseFrom}
 use Rattle.rows.proofs.Bits.{bit-shifted, bit-halved, bit-none, Lowest, lowest, lowest-found}
 use Rattle.gaps.proofs.Ascending.{false-one, false-same, false-none, false-parts}
+use Rattle.rows.specs.contracts.Rows.{wordBits}
 
 -- the word stands for the states from `from` on
 abbrev pub marked : ℕ → ℕ → ℕ → Bool
@@ -25,7 +26,7 @@ pub word-none : (w from k : ℕ) → w ≡ 0 → falseFrom (marked w from) from 
 word-none w from k e = false-none (marked w from) from k (λ s p q. rw e (ap not (bit-none (s - from))))
 
 -- the lowest bit that is set, and then those above it
-pub word-next : (w from j k t : ℕ) → Lowest w 64 t → t < 64 → j ≡ t + suc k
+pub word-next : (w from j k t : ℕ) → Lowest w wordBits t → t < wordBits → j ≡ t + suc k
     → falseFrom (marked w from) from j ≡ (from + t) ∷ falseFrom (marked (w / 2 ^ t / 2) (from + t + 1)) (from + t + 1) k
 word-next w from j k t l h e =
     let v : ℕ → Bool = marked w from in
@@ -46,43 +47,43 @@ pub record Rest (word base from : ℕ) (out₀ out : List ℕ) (rest at m : ℕ)
   pub same : length out ≡ length out₀
   pub room : m ≤ length out
   pub lower : base ≤ at
-  pub upper : at ≤ base + 64
-  pub small : rest < 2 ^ (base + 64 - at)
-  pub go : (r : Found) (after : List ℕ) → Writes out m (falseFrom (marked rest at) at (base + 64 - at)) r after
-      → Writes out₀ from (falseFrom (marked word base) base 64) r after
+  pub upper : at ≤ base + wordBits
+  pub small : rest < 2 ^ (base + wordBits - at)
+  pub go : (r : Found) (after : List ℕ) → Writes out m (falseFrom (marked rest at) at (base + wordBits - at)) r after
+      → Writes out₀ from (falseFrom (marked word base) base wordBits) r after
 
-pub rest-start : (word base from : ℕ) (out : List ℕ) → from ≤ length out → word < 2 ^ 64 → Rest word base from out out word base from
+pub rest-start : (word base from : ℕ) (out : List ℕ) → from ≤ length out → word < 2 ^ wordBits → Rest word base from out out word base from
 rest-start word base from out h b =
-    let e : base + 64 - base ≡ 64 = omega arith in
+    let e : base + wordBits - base ≡ wordBits = omega arith in
     record { same = refl; room = h; lower = omega arith; upper = omega arith; small = rw e b; go = λ r after w. rw e at w }
 
 module _ (word base from : ℕ) (out₀ out : List ℕ) (rest at m : ℕ) (i : Rest word base from out₀ out rest at m) where
-  pub rest-done : rest ≡ 0 → Writes out₀ from (falseFrom (marked word base) base 64) (Done m) out
-  rest-done e = i .go (Done m) out (rw (word-none rest at (base + 64 - at) e) (writes-none out m (i .room)))
+  pub rest-done : rest ≡ 0 → Writes out₀ from (falseFrom (marked word base) base wordBits) (Done m) out
+  rest-done e = i .go (Done m) out (rw (word-none rest at (base + wordBits - at) e) (writes-none out m (i .room)))
 
   module _ (n : rest ≡ 0 → ⊥) where
     -- the lowest bit lies within the word
-    pub rest-within : at + trailingZeros 64 rest < base + 64
-    rest-within = omega (arith, lowest-found (base + 64 - at) 64 rest (omega (arith, i .lower)) (i .small) n, i .upper)
+    pub rest-within : at + trailingZeros wordBits rest < base + wordBits
+    rest-within = omega (arith, lowest-found (base + wordBits - at) wordBits rest (omega (arith, i .lower)) (i .small) n, i .upper)
 
-    rest-next : falseFrom (marked rest at) at (base + 64 - at)
-        ≡ (at + trailingZeros 64 rest) ∷ falseFrom (marked (rest / 2 ^ trailingZeros 64 rest / 2) (at + trailingZeros 64 rest + 1)) (at + trailingZeros 64 rest + 1) (base + 64 - (at + trailingZeros 64 rest + 1))
+    rest-next : falseFrom (marked rest at) at (base + wordBits - at)
+        ≡ (at + trailingZeros wordBits rest) ∷ falseFrom (marked (rest / 2 ^ trailingZeros wordBits rest / 2) (at + trailingZeros wordBits rest + 1)) (at + trailingZeros wordBits rest + 1) (base + wordBits - (at + trailingZeros wordBits rest + 1))
     rest-next =
-        word-next rest at (base + 64 - at) (base + 64 - (at + trailingZeros 64 rest + 1)) (trailingZeros 64 rest) (lowest 64 rest)
+        word-next rest at (base + wordBits - at) (base + wordBits - (at + trailingZeros wordBits rest + 1)) (trailingZeros wordBits rest) (lowest wordBits rest)
         (omega (arith, rest-within, i .lower)) (omega (arith, rest-within, i .upper))
 
-    pub rest-full : m ≡ length out → Writes out₀ from (falseFrom (marked word base) base 64) (More m (at + trailingZeros 64 rest)) out
-    rest-full e = i .go (More m (at + trailingZeros 64 rest)) out (rw rest-next (writes-full out m (at + trailingZeros 64 rest) _ e))
+    pub rest-full : m ≡ length out → Writes out₀ from (falseFrom (marked word base) base wordBits) (More m (at + trailingZeros wordBits rest)) out
+    rest-full e = i .go (More m (at + trailingZeros wordBits rest)) out (rw rest-next (writes-full out m (at + trailingZeros wordBits rest) _ e))
 
-    rest-smaller : rest / 2 ^ trailingZeros 64 rest / 2 < 2 ^ (base + 64 - (at + trailingZeros 64 rest + 1))
+    rest-smaller : rest / 2 ^ trailingZeros wordBits rest / 2 < 2 ^ (base + wordBits - (at + trailingZeros wordBits rest + 1))
     rest-smaller =
-        let t : ℕ = trailingZeros 64 rest in
-        let e : base + 64 - at ≡ base + 64 - (at + t + 1) + (t + 1) = omega (arith, rest-within, i .upper) in
-        rw (shr-shr rest t 1) (shr-lt (base + 64 - (at + t + 1)) (t + 1) (rw e at (i .small)))
+        let t : ℕ = trailingZeros wordBits rest in
+        let e : base + wordBits - at ≡ base + wordBits - (at + t + 1) + (t + 1) = omega (arith, rest-within, i .upper) in
+        rw (shr-shr rest t 1) (shr-lt (base + wordBits - (at + t + 1)) (t + 1) (rw e at (i .small)))
 
-    pub rest-more : (m ≡ length out → ⊥) → Rest word base from out₀ (set out m (at + trailingZeros 64 rest)) (rest / 2 ^ trailingZeros 64 rest / 2) (at + trailingZeros 64 rest + 1) (m + 1)
+    pub rest-more : (m ≡ length out → ⊥) → Rest word base from out₀ (set out m (at + trailingZeros wordBits rest)) (rest / 2 ^ trailingZeros wordBits rest / 2) (at + trailingZeros wordBits rest + 1) (m + 1)
     rest-more f =
-        let t : ℕ = trailingZeros 64 rest in
+        let t : ℕ = trailingZeros wordBits rest in
         let h : m < length out = omega (arith, i .room) in
         let l : length (set out m (at + t)) ≡ length out = length-set out m (at + t) in
         record {

@@ -1,5 +1,5 @@
 -- The table that parse leaves is one of codes within their ceilings, and its flags are those of the text's guard.
-use Prim.Native.Nat.{ℕ, _+_, _*_, _≤_, _<_}
+use Prim.Native.Nat.{ℕ, _*_, _≤_, _<_}
 use native.Mathlib.Omega.{arith}
 use mathlib.Core.Path.{_≡_, sym, ap, subst, _∙_}
 use mathlib.Core.List.{List, [], _∷_, _++_}
@@ -11,7 +11,7 @@ use Rattle.notation.specs.Tokens.{tokens}
 use Rattle.notation.specs.Walk.{Flag, Outcome, refused, accepted, walk, operand}
 use Rattle.notation.specs.Guard.{Guard}
 use Rattle.notation.specs.Grammar.{tree}
-use Rattle.notation.specs.Reading.{Reading, refusal, guard, judged, reading}
+use Rattle.notation.specs.Reading.{Reading, refusal, judged, reading}
 use Rattle.notation.specs.contracts.Codes.{startOf, endOf, codeIn, flagAt, flagsIn}
 use Rattle.notation.specs.declared.refusal.Refusal.{Refusal}
 use Rattle.reading.specs.declared.parse.Guard as counted

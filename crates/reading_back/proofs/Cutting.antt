@@ -4,7 +4,7 @@ use native.Mathlib.Nat.{add-zero}
 use native.Mathlib.Omega.{arith}
 use mathlib.Core.Path.{_≡_, refl, sym, ap, _∙_}
 use mathlib.Core.Logic.{⊎-elim}
-use mathlib.Core.Bool.{Bool, true, false, false≢true, true≢false}
+use mathlib.Core.Bool.{Bool, true, false, false≢true}
 use mathlib.Core.List.{List, [], _∷_, _++_}
 use lib.ListN.{length}
 use lib.Dec.{eqb}
@@ -15,6 +15,7 @@ use Rattle.ground.specs.Choice.{choose}
 use Rattle.notation.specs.Grammar.{isSign, signNext, sameSign, past}
 use Rattle.operands.specs.contracts.Steps.{binding}
 use Rattle.ground.proofs.Cases.{either}
+use Rattle.notation.proofs.Cutting.{code-no-space}
 use Rattle.operands.proofs.Stepping.{same-binding}
 use Rattle.reading_back.specs.Written.{signByte, codeBytes, IsCode}
 
@@ -40,10 +41,6 @@ passed : (p : ℕ) (c rest : List ℕ) → tokensFrom p (length c) (c ++ rest) �
 unfolding tokensFrom
 passed p [] rest = rw add-zero
 passed p (b ∷ c) rest = passed (suc p) c rest ∙ ap (λ (q : ℕ). tokensFrom q 0 rest) (omega arith)
-
-code-no-space : (b : ℕ) → codeByte b ≡ true → eqb b 32 ≡ false
-unfolding codeByte among
-code-no-space b e = ne-eqb b 32 (λ (h : b ≡ 32). true≢false (sym e ∙ ap codeByte h))
 
 -- what follows a first byte, by whether it is a space
 branch : ℕ → ℕ → List ℕ → Bool → Tokens

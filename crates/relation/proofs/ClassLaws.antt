@@ -16,9 +16,9 @@ use Rattle.relation.specs.Relation.{Rel, IsRelation}
 use Rattle.relation.specs.contracts.Classes.{variableCeiling, entry, lead, relation, contradictory, Canonical, Classes}
 use Rattle.relation.specs.contracts.Keeping.{Lower, tied}
 use Rattle.relation.proofs.RelationLaws.{bool-eq}
-use Rattle.ground.proofs.Cases.{either, split-eq, lt-or-ge}
+use Rattle.ground.proofs.Cases.{either, split-eq, lt-or-ge, parity}
 use Rattle.notation.proofs.Shaped.{negation-half}
-use Rattle.relation.proofs.LiteralLaws.{sign-cases, signed-even, signed-odd, signed-half, signed-sign, literal-eq, negation-sign, negation-differs}
+use Rattle.relation.proofs.LiteralLaws.{signed-even, signed-odd, signed-half, signed-sign, literal-eq, negation-sign, negation-differs}
 
 -- within an array it does not matter what is given past its end
 pub entry-at : (xs : List ℕ) (v d : ℕ) → v < length xs → getD xs v d ≡ entry xs v
@@ -161,7 +161,7 @@ lead-signed f l s =
     ⊎-elim
     (λ (p : s % 2 ≡ 0). ap (lead f) (signed-even l s p) ∙ sym (signed-even (lead f l) s p))
     (λ (p : s % 2 ≡ 1). ap (lead f) (signed-odd l s p) ∙ lead-negation f l ∙ sym (signed-odd (lead f l) s p))
-    (sign-cases s)
+    (parity s)
 
 -- in a consistent relation true is not false
 pub apart : (f : ℕ → ℕ) → contradictory f ≡ false → relation f 0 1 ≡ true → ⊥

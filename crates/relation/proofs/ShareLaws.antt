@@ -247,11 +247,11 @@ meet-canonical n f g h m =
             ∙ meet-joins n f g h m (lead h (2 * v)) (2 * v) (meet-leads n f g h m (2 * v) .0) (meet-leads n f g h m (2 * v) .1)
             ∙ lead-variable h v
 
-common-true : (R S : Rel) (l m : ℕ) → R l m ≡ true → S l m ≡ true → common R S l m ≡ true
+pub common-true : (R S : Rel) (l m : ℕ) → R l m ≡ true → S l m ≡ true → common R S l m ≡ true
 unfolding common
 common-true R S l m p q = rw p q
 
-common-both : (R S : Rel) (l m : ℕ) → common R S l m ≡ true → (R l m ≡ true) × (S l m ≡ true)
+pub common-both : (R S : Rel) (l m : ℕ) → common R S l m ≡ true → (R l m ≡ true) × (S l m ≡ true)
 unfolding common
 common-both R S l m e =
     ⊎-elim

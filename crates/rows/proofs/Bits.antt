@@ -1,8 +1,8 @@
 -- Bit i of a word, as a Bool: of a shifted word, of two words joined, of a word that is all ones or zero, and the lowest one that is set.
-use Prim.Native.Nat.{ℕ, zero, suc, _+_, _*_, _-_, _/_, _%_, _^_, _≤_, _<_, min, max}
+use Prim.Native.Nat.{ℕ, zero, suc, _+_, _*_, _/_, _%_, _^_, _≤_, _<_, min, max}
 use mathlib.Core.Path.{_≡_, refl, sym, _∙_}
 use mathlib.Core.Bool.{Bool, true, false, not, _&&_, _||_}
-use mathlib.Core.Logic.{_⊎_, inl, inr, ⊎-elim}
+use mathlib.Core.Logic.{⊎-elim}
 use native.Mathlib.Omega.{arith}
 use native.Mathlib.Nat.{pow-suc, zero-div, eq-or-lt-of-le, le-of-suc-le-suc}
 use lib.Dec.{T, eqb}
@@ -12,6 +12,8 @@ use lib.Count.{trailingZeros}
 use Rattle.truth.specs.Value.{table}
 use Rattle.ground.specs.Bits.{bit}
 use Rattle.notation.specs.Tokens.{same}
+use Rattle.ground.proofs.Cases.{digit, parity}
+use Rattle.rows.specs.contracts.Rows.{wordBits, allOnes}
 
 -- bit i of a shifted word is bit a + i of the word
 pub bit-shifted : (w a i : ℕ) → bit (w / 2 ^ a) i ≡ bit w (a + i)
@@ -21,27 +23,21 @@ bit-shifted w a i = rw (shr-shr w a i)
 pub bit-halved : (w i : ℕ) → bit (w / 2) i ≡ bit w (suc i)
 bit-halved w i = let e : suc i ≡ 1 + i = omega arith in rw e (bit-shifted w 1 i)
 
--- what a digit is
-digit : (d : ℕ) → d < 2 → (d ≡ 0) ⊎ (d ≡ 1)
-digit zero h = inl refl
-digit (suc zero) h = inr refl
-digit (suc (suc d)) h = absurd (omega arith)
+-- what holds of the four pairs of digits holds of every pair
+digits : (P : ℕ → ℕ → Type 0) → P 0 0 → P 0 1 → P 1 0 → P 1 1 → (a b : ℕ) → a < 2 → b < 2 → P a b
+digits P nn ny yn yy a b p q =
+    ⊎-elim
+    (λ (x : a ≡ 0). rw x (⊎-elim (λ (y : b ≡ 0). rw y nn) (λ (y : b ≡ 1). rw y ny) (digit b q)))
+    (λ (x : a ≡ 1). rw x (⊎-elim (λ (y : b ≡ 0). rw y yn) (λ (y : b ≡ 1). rw y yy) (digit b q)))
+    (digit a p)
 
 -- the lowest digits of two words, joined
 or-digit : (a b : ℕ) → a < 2 → b < 2 → eqb (max a b) 1 ≡ (eqb a 1 || eqb b 1)
-or-digit a b p q =
-    ⊎-elim
-    (λ (x : a ≡ 0). ⊎-elim (λ (y : b ≡ 0). rw (x, y)) (λ (y : b ≡ 1). rw (x, y)) (digit b q))
-    (λ (x : a ≡ 1). ⊎-elim (λ (y : b ≡ 0). rw (x, y)) (λ (y : b ≡ 1). rw (x, y)) (digit b q))
-    (digit a p)
+or-digit = digits (λ a b. eqb (max a b) 1 ≡ (eqb a 1 || eqb b 1)) refl refl refl refl
 
 xor-digit : (a b : ℕ) → a < 2 → b < 2 → eqb (differ a b) 1 ≡ not (table same (eqb a 1) (eqb b 1))
 unfolding table
-xor-digit a b p q =
-    ⊎-elim
-    (λ (x : a ≡ 0). ⊎-elim (λ (y : b ≡ 0). rw (x, y)) (λ (y : b ≡ 1). rw (x, y)) (digit b q))
-    (λ (x : a ≡ 1). ⊎-elim (λ (y : b ≡ 0). rw (x, y)) (λ (y : b ≡ 1). rw (x, y)) (digit b q))
-    (digit a p)
+xor-digit = digits (λ a b. eqb (differ a b) 1 ≡ not (table same (eqb a 1) (eqb b 1))) refl refl refl refl
 
 or-lowest : (a b : ℕ) → bitOr a b % 2 ≡ max (a % 2) (b % 2)
 or-lowest a b =
@@ -50,11 +46,7 @@ or-lowest a b =
     rw or-step (omega arith)
 
 xor-small : (a b : ℕ) → a < 2 → b < 2 → differ a b < 2
-xor-small a b p q =
-    ⊎-elim
-    (λ (x : a ≡ 0). rw x q)
-    (λ (x : a ≡ 1). ⊎-elim (λ (y : b ≡ 0). rw (x, y) (omega arith)) (λ (y : b ≡ 1). rw (x, y) (omega arith)) (digit b q))
-    (digit a p)
+xor-small = digits (λ a b. differ a b < 2) (omega arith) (omega arith) (omega arith) (omega arith)
 
 xor-lowest : (a b : ℕ) → bitXor a b % 2 ≡ differ (a % 2) (b % 2)
 xor-lowest a b =
@@ -66,11 +58,7 @@ unfolding bit
 bit-or a b i = rw (or-shr a b i, or-lowest (a / 2 ^ i) (b / 2 ^ i)) (or-digit (a / 2 ^ i % 2) (b / 2 ^ i % 2) (omega arith) (omega arith))
 
 and-digit : (a b : ℕ) → a < 2 → b < 2 → eqb (min a b) 1 ≡ (eqb a 1 && eqb b 1)
-and-digit a b p q =
-    ⊎-elim
-    (λ (x : a ≡ 0). ⊎-elim (λ (y : b ≡ 0). rw (x, y)) (λ (y : b ≡ 1). rw (x, y)) (digit b q))
-    (λ (x : a ≡ 1). ⊎-elim (λ (y : b ≡ 0). rw (x, y)) (λ (y : b ≡ 1). rw (x, y)) (digit b q))
-    (digit a p)
+and-digit = digits (λ a b. eqb (min a b) 1 ≡ (eqb a 1 && eqb b 1)) refl refl refl refl
 
 and-lowest : (a b : ℕ) → bitAnd a b % 2 ≡ min (a % 2) (b % 2)
 and-lowest a b =
@@ -115,7 +103,7 @@ lowest (suc k) w =
     ⊎-elim
     (λ (e : w % 2 ≡ 0). rw e (lowest-even w k (trailingZeros k (w / 2)) e (lowest k (w / 2))))
     (λ (e : w % 2 ≡ 1). rw e (lowest-odd w k e))
-    (digit (w % 2) (omega arith))
+    (parity w)
 
 -- a word of j digits that is not 0 has a set bit among them
 pub lowest-found : (j k w : ℕ) → j ≤ k → w < 2 ^ j → (w ≡ 0 → ⊥) → trailingZeros k w < j
@@ -127,7 +115,7 @@ lowest-found (suc j) (suc k) w l h n =
     ⊎-elim
     (λ (e : w % 2 ≡ 0). rw e (omega (arith, lowest-found j k (w / 2) (omega arith) (omega arith) (λ z. n (omega arith)))))
     (λ (e : w % 2 ≡ 1). rw e (omega arith))
-    (digit (w % 2) (omega arith))
+    (parity w)
 
 -- no bit of 0 is set
 pub bit-none : (i : ℕ) → bit 0 i ≡ false
@@ -157,10 +145,10 @@ every-at p (suc k) t i h =
     (λ (l : i < k). every-at p k (s .1) i l)
     (eq-or-lt-of-le (le-of-suc-le-suc h))
 
-ones-all : T (every (λ k. bit (2 ^ 64 - 1) k) 64)
+ones-all : T (every (λ k. bit allOnes k) wordBits)
 unfolding every bit
 ones-all = tt
 
 -- every bit of the word of all ones is set
-pub bit-ones : (i : ℕ) → i < 64 → bit (2 ^ 64 - 1) i ≡ true
-bit-ones i h = every-at (λ k. bit (2 ^ 64 - 1) k) 64 ones-all i h
+pub bit-ones : (i : ℕ) → i < wordBits → bit allOnes i ≡ true
+bit-ones i h = every-at (λ k. bit allOnes k) wordBits ones-all i h

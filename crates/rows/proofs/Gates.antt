@@ -1,5 +1,5 @@
 -- The row of a triplet: word by word, what the rows of its operands make of it, is so in every state.
-use Prim.Native.Nat.{ℕ, zero, suc, _+_, _*_, _-_, _/_, _%_, _^_, _≤_, _<_}
+use Prim.Native.Nat.{ℕ, zero, suc, _+_, _*_, _/_, _%_, _≤_, _<_}
 use mathlib.Core.Path.{_≡_, refl, sym, ap, _∙_}
 use mathlib.Core.Bool.{Bool, true, false, not, _||_, Bool·not-not}
 use mathlib.Core.List.{List}
@@ -18,8 +18,8 @@ use Rattle.notation.specs.contracts.Shape.{kindAt, yAt, zAt}
 use Rattle.truth.specs.Value.{table}
 use Rattle.ground.specs.Bits.{bit}
 use Rattle.truth.specs.contracts.Computed.{literalValue, gate}
-use Rattle.truth.proofs.Literals.{parity}
-use Rattle.rows.specs.contracts.Rows.{inRow, turned, RowMade, TripletMade}
+use Rattle.ground.proofs.Cases.{parity}
+use Rattle.rows.specs.contracts.Rows.{wordBits, allOnes, inRow, turned, RowMade, RowOf, TripletMade}
 use Rattle.rows.proofs.Bits.{bit-or, bit-xor, bit-none, bit-ones}
 
 same-false : (u : Bool) → not (table same u false) ≡ u
@@ -65,16 +65,16 @@ same-not false true = refl
 same-not false false = refl
 
 -- a word turned by a literal's sign: each bit, as the literal has it
-turned-bit : (l a b : ℕ) → b < 64 → bit (bitXor a (turned l)) b ≡ choose (eqb (l % 2) 0) (bit a b) (not (bit a b))
+turned-bit : (l a b : ℕ) → b < wordBits → bit (bitXor a (turned l)) b ≡ choose (eqb (l % 2) 0) (bit a b) (not (bit a b))
 unfolding turned
 turned-bit l a b h =
     ⊎-elim
     (λ (e : l % 2 ≡ 0). rw (eq-eqb (l % 2) 0 e, bit-xor a 0 b, bit-none b) (same-false (bit a b)))
-    (λ (e : l % 2 ≡ 1). rw (ne-eqb (l % 2) 0 (λ (z : l % 2 ≡ 0). omega arith), bit-xor a (2 ^ 64 - 1) b, bit-ones b h) (same-true (bit a b)))
+    (λ (e : l % 2 ≡ 1). rw (ne-eqb (l % 2) 0 (λ (z : l % 2 ≡ 0). omega arith), bit-xor a allOnes b, bit-ones b h) (same-true (bit a b)))
     (parity l)
 
 -- turned by the other sign
-pub turned-other : (l a b : ℕ) → b < 64 → bit (bitXor a (turned (l + 1))) b ≡ not (choose (eqb (l % 2) 0) (bit a b) (not (bit a b)))
+pub turned-other : (l a b : ℕ) → b < wordBits → bit (bitXor a (turned (l + 1))) b ≡ not (choose (eqb (l % 2) 0) (bit a b) (not (bit a b)))
 turned-other l a b h =
     ⊎-elim
     (λ (e : l % 2 ≡ 0). rw (turned-bit (l + 1) a b h, eq-eqb (l % 2) 0 e, ne-eqb ((l + 1) % 2) 0 (λ (z : (l + 1) % 2 ≡ 0). omega arith)))
@@ -103,33 +103,33 @@ rows-apart v x width h = rw (← suc-mul v width) (mul-le-mul-right width h)
 
 module _ (xs : List ℕ) (j : ℕ) (rows : List ℕ) (width : ℕ) (after : List ℕ) where
   -- a row that is kept word by word is kept
-  kept-row : (x : ℕ) (word : ℕ → ℕ) → x ≡ tripletVariable (suc j) * width → RowMade rows x width word after
-      → (s v : ℕ) → s < 64 * width → v < tripletVariable (suc j) → inRow after width s v ≡ inRow rows width s v
+  kept-row : (x : ℕ) (R : ℕ → ℕ → Type 0) → x ≡ tripletVariable (suc j) * width → RowMade rows x width R after
+      → (s v : ℕ) → s < wordBits * width → v < tripletVariable (suc j) → inRow after width s v ≡ inRow rows width s v
   unfolding inRow
-  kept-row x word ex m s v h b = ap (λ u. bit u (s % 64)) (m .kept (v * width + s / 64) (rw ex (digits-lt b (omega arith))))
+  kept-row x R ex m s v h b = ap (λ u. bit u (s % wordBits)) (m .kept (v * width + s / wordBits) (rw ex (digits-lt b (omega arith))))
 
   pub or-made : (x ty tz : ℕ) → x ≡ tripletVariable (suc j) * width → ty ≡ turned (yAt xs j + 1) → tz ≡ turned (zAt xs j) → kindAt xs j ≡ 0
-      → RowMade rows x width (λ w. bitOr (bitXor (getD rows (yAt xs j / 2 * width + w) 0) ty) (bitXor (getD rows (zAt xs j / 2 * width + w) 0) tz)) after
+      → RowOf (λ a b. bitOr (bitXor a ty) (bitXor b tz)) rows x (yAt xs j / 2 * width) (zAt xs j / 2 * width) width after
       → TripletMade xs j rows width after
   unfolding inRow literalValue
   or-made x ty tz ex ey ez k m =
       record {
         long = m .long;
         made = λ s h.
-            rw (← ex, m .made (s / 64) (omega arith), ey, ez, bit-or (bitXor (getD rows (yAt xs j / 2 * width + s / 64) 0) (turned (yAt xs j + 1))) (bitXor (getD rows (zAt xs j / 2 * width + s / 64) 0) (turned (zAt xs j))) (s % 64), turned-other (yAt xs j) (getD rows (yAt xs j / 2 * width + s / 64) 0) (s % 64) (omega arith), turned-bit (zAt xs j) (getD rows (zAt xs j / 2 * width + s / 64) 0) (s % 64) (omega arith))
+            rw (← ex, m .made (s / wordBits) (omega arith), ey, ez, bit-or (bitXor (getD rows (yAt xs j / 2 * width + s / wordBits) 0) (turned (yAt xs j + 1))) (bitXor (getD rows (zAt xs j / 2 * width + s / wordBits) 0) (turned (zAt xs j))) (s % wordBits), turned-other (yAt xs j) (getD rows (yAt xs j / 2 * width + s / wordBits) 0) (s % wordBits) (omega arith), turned-bit (zAt xs j) (getD rows (zAt xs j / 2 * width + s / wordBits) 0) (s % wordBits) (omega arith))
             (implies-or _ _ ∙ sym (gate-zero (kindAt xs j) _ _ k));
         kept = kept-row x _ ex m;
       }
 
   pub xor-made : (x ty tz : ℕ) → x ≡ tripletVariable (suc j) * width → ty ≡ turned (yAt xs j + 1) → tz ≡ turned (zAt xs j) → (kindAt xs j ≡ 0 → ⊥)
-      → RowMade rows x width (λ w. bitXor (bitXor (getD rows (yAt xs j / 2 * width + w) 0) (getD rows (zAt xs j / 2 * width + w) 0)) (bitXor ty tz)) after
+      → RowOf (λ a b. bitXor (bitXor a b) (bitXor ty tz)) rows x (yAt xs j / 2 * width) (zAt xs j / 2 * width) width after
       → TripletMade xs j rows width after
   unfolding inRow literalValue
   xor-made x ty tz ex ey ez k m =
       record {
         long = m .long;
         made = λ s h.
-            rw (← ex, m .made (s / 64) (omega arith), ey, ez, turned-both (getD rows (yAt xs j / 2 * width + s / 64) 0) (getD rows (zAt xs j / 2 * width + s / 64) 0) (turned (yAt xs j + 1)) (turned (zAt xs j)) (s % 64), turned-other (yAt xs j) (getD rows (yAt xs j / 2 * width + s / 64) 0) (s % 64) (omega arith), turned-bit (zAt xs j) (getD rows (zAt xs j / 2 * width + s / 64) 0) (s % 64) (omega arith))
+            rw (← ex, m .made (s / wordBits) (omega arith), ey, ez, turned-both (getD rows (yAt xs j / 2 * width + s / wordBits) 0) (getD rows (zAt xs j / 2 * width + s / wordBits) 0) (turned (yAt xs j + 1)) (turned (zAt xs j)) (s % wordBits), turned-other (yAt xs j) (getD rows (yAt xs j / 2 * width + s / wordBits) 0) (s % wordBits) (omega arith), turned-bit (zAt xs j) (getD rows (zAt xs j / 2 * width + s / wordBits) 0) (s % wordBits) (omega arith))
             (same-not _ _ ∙ sym (gate-other (kindAt xs j) _ _ k));
         kept = kept-row x _ ex m;
       }

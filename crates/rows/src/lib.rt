@@ -2,12 +2,21 @@
 use notation::ceilings::FLAGS;
 ghost use mathlib.Core.Path.{_≡_};
 ghost use Prim.Native.Nat.{suc, _+_, _*_, _-_, _/_, _^_, _≤_, _<_};
-ghost use lib.ListN.{length, getD};
+ghost use lib.ListN.{length};
 ghost use lib.Bits.{bitOr, bitXor};
 ghost use Rattle.notation.specs.Ceilings.{flagCeiling, connectiveCeiling};
 ghost use Rattle.notation.specs.Triplets.{tripletVariable};
 ghost use Rattle.notation.specs.contracts.Shape.{Shape, yAt, zAt};
-ghost use Rattle.rows.specs.contracts.Rows.{turned, RowMade, TripletMade, FlagRows, Evaluated, WordOf, FlagMade, FlagsMade};
+ghost use Rattle.rows.specs.contracts.Rows.{wordBits, allOnes, turned, RowMade, RowOf, TripletMade, FlagRows, Evaluated, WordOf, FlagsMade};
+
+// Flags whose states one word holds.
+pub const WORD_FLAGS: usize = 6;
+
+// Bits of a word, one for each of those states.
+pub const WORD_BITS: u64 = 64;
+
+// The word of all ones.
+pub const ONES: u64 = 18446744073709551615;
 
 // All ones for a negated literal, else zero.
 pub fn turn(l: u16) -> u64
@@ -16,13 +25,13 @@ pub fn turn(l: u16) -> u64
     if l % 2 == 0 {
         return 0;
     }
-    18446744073709551615
+    ONES
 }
 
 // The row from x on becomes that from y on or that from z on, each turned first.
 fn or_row(rows: &mut [u64], x: usize, y: usize, z: usize, ty: u64, tz: u64, width: usize)
     requires { ⌜ (y + width ≤ x) × (z + width ≤ x) × (x + width ≤ length (now rows)) ⌝ }
-    ensures { λ _. ⌜ RowMade (now (rows .entry)) x width (λ w. bitOr (bitXor (getD (now (rows .entry)) (y + w) 0) ty) (bitXor (getD (now (rows .entry)) (z + w) 0) tz)) (now (rows .exit)) ⌝ }
+    ensures { λ _. ⌜ RowOf (λ a b. bitOr (bitXor a ty) (bitXor b tz)) (now (rows .entry)) x y z width (now (rows .exit)) ⌝ }
 {
     let mut w = 0;
     while w < width {
@@ -34,7 +43,7 @@ fn or_row(rows: &mut [u64], x: usize, y: usize, z: usize, ty: u64, tz: u64, widt
 // The row from x on becomes where those from y on and from z on differ, turned.
 fn xor_row(rows: &mut [u64], x: usize, y: usize, z: usize, t: u64, width: usize)
     requires { ⌜ (y + width ≤ x) × (z + width ≤ x) × (x + width ≤ length (now rows)) ⌝ }
-    ensures { λ _. ⌜ RowMade (now (rows .entry)) x width (λ w. bitXor (bitXor (getD (now (rows .entry)) (y + w) 0) (getD (now (rows .entry)) (z + w) 0)) t) (now (rows .exit)) ⌝ }
+    ensures { λ _. ⌜ RowOf (λ a b. bitXor (bitXor a b) t) (now (rows .entry)) x y z width (now (rows .exit)) ⌝ }
 {
     let mut w = 0;
     while w < width {
@@ -75,7 +84,7 @@ pub fn evaluate(xs: &[u16], count: usize, n: usize, rows: &mut [u64], width: usi
 }
 
 // Bit p of the numbers 0 to 63, for each p below 6.
-const LOW: [u64; 6] = [
+const LOW: [u64; WORD_FLAGS] = [
     0xAAAAAAAAAAAAAAAA,
     0xCCCCCCCCCCCCCCCC,
     0xF0F0F0F0F0F0F0F0,
@@ -86,22 +95,22 @@ const LOW: [u64; 6] = [
 
 // Bit p of the 64 states of word w.
 fn flag_word(p: usize, w: usize) -> u64
-    requires { ⌜ p < 64 ⌝ }
+    requires { ⌜ p < wordBits ⌝ }
     ensures { λ r. ⌜ WordOf p w r ⌝ }
 {
-    if p < 6 {
+    if p < WORD_FLAGS {
         return LOW[p];
     }
-    if (w >> (p - 6)) % 2 == 0 {
+    if (w >> (p - WORD_FLAGS)) % 2 == 0 {
         return 0;
     }
-    18446744073709551615
+    ONES
 }
 
 // Makes the row, from x on, of the flag that is bit p of a state.
 fn flag_row(rows: &mut [u64], x: usize, p: usize, width: usize)
-    requires { ⌜ (p < 64) × (x + width ≤ length (now rows)) ⌝ }
-    ensures { λ _. ⌜ FlagMade (now (rows .entry)) x p width (now (rows .exit)) ⌝ }
+    requires { ⌜ (p < wordBits) × (x + width ≤ length (now rows)) ⌝ }
+    ensures { λ _. ⌜ RowMade (now (rows .entry)) x width (λ w r. WordOf p w r) (now (rows .exit)) ⌝ }
 {
     let mut w = 0;
     while w < width {
@@ -114,18 +123,18 @@ fn flag_row(rows: &mut [u64], x: usize, p: usize, width: usize)
 // Makes the row of true.
 fn true_row(rows: &mut [u64], width: usize)
     requires { ⌜ width ≤ length (now rows) ⌝ }
-    ensures { λ _. ⌜ RowMade (now (rows .entry)) 0 width (λ _. 2 ^ 64 - 1) (now (rows .exit)) ⌝ }
+    ensures { λ _. ⌜ RowMade (now (rows .entry)) 0 width (λ _ r. r ≡ allOnes) (now (rows .exit)) ⌝ }
 {
     let mut w = 0;
     while w < width {
-        rows[w] = 18446744073709551615;
+        rows[w] = ONES;
         w += 1;
     }
 }
 
 // Makes the rows of true and of n flags.
 pub fn flag_rows(rows: &mut [u64], n: usize, width: usize)
-    requires { ⌜ (n < 64) × (suc n * width ≤ length (now rows)) ⌝ }
+    requires { ⌜ (n < wordBits) × (suc n * width ≤ length (now rows)) ⌝ }
     ensures { λ _. ⌜ FlagsMade n width (now (rows .entry)) (now (rows .exit)) ⌝ }
 {
     true_row(rows, width);

@@ -4,14 +4,14 @@ use mathlib.Core.Path.{_≡_, refl, sym, ap, _∙_}
 use mathlib.Core.Bool.{Bool, true, false}
 use mathlib.Core.List.{List, _++_}
 use native.Mathlib.Omega.{arith}
-use native.Mathlib.Nat.{pow-suc, mul-comm, mul-assoc, suc-mul, zero-mod}
+use native.Mathlib.Nat.{pow-suc, mul-comm, mul-assoc, suc-mul, zero-mod, mul-le-mul-right}
 use native.Mathlib.Numerals.{add-one}
 use lib.ListN.{length}
-use lib.Pow.{low, high, pow-pos, pow-mono, shl-exact}
+use lib.Pow.{low, high, pow-pos, pow-add, pow-mono, shl-exact}
 use lib.Dec.{eqb, ltb}
-use Rattle.ground.specs.Choice.{choose}
 use Rattle.notation.specs.Ceilings.{flagCeiling, connectiveCeiling}
 use Rattle.ground.specs.Bits.{bit}
+use Rattle.ground.proofs.Truths.{either-way}
 use Rattle.truth.specs.contracts.Computed.{computed, rootValue, Triplets}
 use Rattle.truth.proofs.Literals.{literal-even}
 use Rattle.truth.proofs.Computing.{flag-kept, true-at-start}
@@ -19,10 +19,10 @@ use Rattle.gaps.specs.declared.writing.Found.{Found}
 use Rattle.gaps.specs.declared.writing.Found.the-variants.{Done, More}
 use Rattle.gaps.specs.Gaps.{falseFrom}
 use Rattle.notation.specs.Triplets.{tripletVariable}
-use Rattle.rows.specs.contracts.Rows.{FlagRows, FlagsMade}
+use Rattle.rows.specs.contracts.Rows.{wordBits, wordFlags, FlagRows, FlagsMade}
 use Rattle.gaps.specs.contracts.Rows.{Writes, since}
 use Rattle.fixing.specs.contracts.Fixing.{Fixed}
-use Rattle.search.specs.contracts.Walking.{Rows, Stretch, Walked}
+use Rattle.search.specs.contracts.Walking.{widest, Rows, Stretch, Walked}
 use Rattle.gaps.proofs.Ascending.{false-none, false-parts}
 use Rattle.gaps.proofs.Since.{since-same, since-none, since-whole}
 use Rattle.search.proofs.Blocks.{multiple}
@@ -37,10 +37,6 @@ walked-before v start base n low width from out rows h b f =
 always-since : (start : ℕ) (v : ℕ → Bool) (s : ℕ) → v s ≡ true → since start v s ≡ true
 unfolding since
 always-since start v s e = rw e (either-way (ltb s start))
-  where
-    either-way : (b : Bool) → choose b true true ≡ true
-    either-way true = refl
-    either-way false = refl
 
 module _ (n : ℕ) (b : Bool) (xs : List ℕ) (count root : ℕ) (ys : List ℕ) (c r : ℕ) (f : Fixed n b xs count root ys c r) where
   fixed-value : (s : ℕ) → bit s n ≡ b → rootValue n ys c r s ≡ rootValue (suc n) xs count root s
@@ -153,8 +149,8 @@ pub half-upper : (m n width base h : ℕ) → suc m ≡ n → h ≡ 2 ^ m → St
 half-upper m n width base h e f st s a b = upper-bit m base (rw e (st .aligned)) s (omega arith) (omega arith)
 
 -- 1 shifted left
-pub shifted : (m : ℕ) → m < 64 → 1 * 2 ^ m % 2 ^ 64 ≡ 2 ^ m
-shifted m h = shl-exact {a = 1} 1 m 64 (omega arith) (omega arith) ∙ one-times (2 ^ m)
+pub shifted : (m : ℕ) → m < wordBits → 1 * 2 ^ m % 2 ^ wordBits ≡ 2 ^ m
+shifted m h = shl-exact {a = 1} 1 m wordBits (omega arith) (omega arith) ∙ one-times (2 ^ m)
   where
     one-times : (a : ℕ) → 1 * a ≡ a
     one-times a = omega arith
@@ -175,12 +171,22 @@ pub searched : (v : ℕ → Bool) (start n low width : ℕ) (out out′ rows : L
 searched v start n low width out out′ rows r h w = rw (from-start v start (2 ^ n) h) at (w .writes)
 
 -- all states are a stretch
-pub stretch-all : (n width : ℕ) → n ≤ flagCeiling → width ≤ 32 → Stretch n width 0
+pub stretch-all : (n width : ℕ) → n ≤ flagCeiling → width ≤ 2 ^ widest → Stretch n width 0
 stretch-all n width h b =
     record { aligned = zero-mod (2 ^ n); small = omega (arith, pow-mono {i = n} {j = flagCeiling} h) }
 
 -- rows that hold the states of so many flags
-pub rows-all : (low most width : ℕ) (rows after : List ℕ) → low ≤ most → 2 ^ most ≤ 64 * width → tripletVariable (suc connectiveCeiling) * width ≤ length rows
+pub rows-all : (low most width : ℕ) (rows after : List ℕ) → low ≤ most → 2 ^ most ≤ wordBits * width → tripletVariable (suc connectiveCeiling) * width ≤ length rows
     → FlagsMade low width rows after → Rows low width after
 rows-all low most width rows after h b l f =
     record { enough = omega (arith, pow-mono {i = low} {j = most} h); long = rw (f .long) l; right = f .right }
+
+-- 2^more words hold the states of so many more flags than one word
+pub words-hold : (more : ℕ) → 2 ^ (wordFlags + more) ≤ wordBits * 2 ^ more
+words-hold more = omega (arith, pow-add 2 wordFlags more)
+
+-- where the rows of all variables fit, so do those of true and of the flags
+pub flags-fit : (n width long : ℕ) → n ≤ flagCeiling → tripletVariable (suc connectiveCeiling) * width ≤ long → suc n * width ≤ long
+flags-fit n width long h l =
+    let less : suc n ≤ tripletVariable (suc connectiveCeiling) = omega arith in
+    omega (arith, mul-le-mul-right width less)

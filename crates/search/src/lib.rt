@@ -5,16 +5,27 @@ use crate::walk::block;
 use crate::walk::walk;
 use gaps::writing::Found;
 use notation::ceilings::VARIABLES;
+use rows::WORD_FLAGS;
 use rows::flag_rows;
-ghost use Prim.Native.Nat.{_^_, _-_, _≤_, _<_};
+ghost use Prim.Native.Nat.{suc, _+_, _*_, _^_, _-_, _≤_};
+ghost use lib.ListN.{length};
+ghost use Rattle.notation.specs.Ceilings.{connectiveCeiling};
+ghost use Rattle.notation.specs.Triplets.{tripletVariable};
 ghost use Rattle.truth.specs.contracts.Computed.{rootValue, Triplets};
 ghost use Rattle.gaps.specs.Gaps.{falseFrom};
 ghost use Rattle.gaps.specs.contracts.Rows.{Writes};
+ghost use Rattle.rows.specs.contracts.Rows.{wordFlags};
+ghost use Rattle.search.specs.contracts.Walking.{widest};
 
-// Words of the rows of all variables, at four and at 32 words to a row.
-const FOUR_WORDS: usize = 4 * VARIABLES;
+// Most flags whose states are evaluated at once, and the words of a row that hold them.
+const MOST_FLAGS: usize = WORD_FLAGS + 5;
 
-const MANY_WORDS: usize = 32 * VARIABLES;
+const MOST_WORDS: usize = 32;
+
+// Words of the rows of all variables, at four and at most words to a row.
+const FOUR_TO_A_ROW: usize = 4 * VARIABLES;
+
+const MOST_TO_A_ROW: usize = MOST_WORDS * VARIABLES;
 
 // Both signs of each variable.
 const LITERALS: usize = 2 * VARIABLES;
@@ -22,27 +33,45 @@ const LITERALS: usize = 2 * VARIABLES;
 // What a row holds before it is made is never read; a fill of unequal bytes is a plain loop, where one of equal bytes may
 // become a call that is dear for a guard of few flags.
 
-// At most 6 flags: one word to a row.
+// All states at once, in rows of 2^more words, which hold the states of so many more flags than a word.
+fn at_once(
+    xs: &[u16],
+    count: usize,
+    root: u16,
+    n: usize,
+    more: usize,
+    rows: &mut [u64],
+    start: u64,
+    out: &mut [u32],
+) -> Found
+    requires { ⌜ Triplets n (now xs) count root × (n ≤ wordFlags + more) × (start ≤ 2 ^ n) ⌝ }
+    requires { ⌜ (more ≤ widest) × (tripletVariable (suc connectiveCeiling) * 2 ^ more ≤ length (now rows)) ⌝ }
+    ensures { λ r. ⌜ Writes (now (out .entry)) 0 (falseFrom (rootValue n (now (xs .entry)) count root) start (2 ^ n - start)) r (now (out .exit)) ⌝ }
+{
+    let width = 1 << more;
+    flag_rows(rows, n, width);
+    block(xs, count, root, n, rows, width, 0, start, 0, out)
+}
+
+// As many flags as a word holds: one word to a row.
 fn narrow(xs: &[u16], count: usize, root: u16, n: usize, start: u64, out: &mut [u32]) -> Found
-    requires { ⌜ Triplets n (now xs) count root × (n ≤ 6) × (start ≤ 2 ^ n) ⌝ }
+    requires { ⌜ Triplets n (now xs) count root × (n ≤ wordFlags) × (start ≤ 2 ^ n) ⌝ }
     ensures { λ r. ⌜ Writes (now (out .entry)) 0 (falseFrom (rootValue n (now (xs .entry)) count root) start (2 ^ n - start)) r (now (out .exit)) ⌝ }
 {
     let mut rows = [72623859790382856u64; VARIABLES];
-    flag_rows(&mut rows, n, 1);
-    block(xs, count, root, n, &mut rows, 1, 0, start, 0, out)
+    at_once(xs, count, root, n, 0, &mut rows, start, out)
 }
 
-// At most 8 flags: four words to a row.
+// At most two flags more: four words to a row.
 fn middle(xs: &[u16], count: usize, root: u16, n: usize, start: u64, out: &mut [u32]) -> Found
-    requires { ⌜ Triplets n (now xs) count root × (n ≤ 8) × (start ≤ 2 ^ n) ⌝ }
+    requires { ⌜ Triplets n (now xs) count root × (n ≤ wordFlags + 2) × (start ≤ 2 ^ n) ⌝ }
     ensures { λ r. ⌜ Writes (now (out .entry)) 0 (falseFrom (rootValue n (now (xs .entry)) count root) start (2 ^ n - start)) r (now (out .exit)) ⌝ }
 {
-    let mut rows = [72623859790382856u64; FOUR_WORDS];
-    flag_rows(&mut rows, n, 4);
-    block(xs, count, root, n, &mut rows, 4, 0, start, 0, out)
+    let mut rows = [72623859790382856u64; FOUR_TO_A_ROW];
+    at_once(xs, count, root, n, 2, &mut rows, start, out)
 }
 
-// More flags: 32 words to a row, so that the last 11 flags need no walk.
+// More flags: 32 words to a row, so that the last flags, as many as these hold, need no walk.
 fn wide(
     xs: &[u16],
     count: usize,
@@ -52,12 +81,12 @@ fn wide(
     start: u64,
     out: &mut [u32],
 ) -> Found
-    requires { ⌜ Triplets n (now xs) count root × (low ≤ 11) × (low ≤ n) × (start ≤ 2 ^ n) ⌝ }
+    requires { ⌜ Triplets n (now xs) count root × (low ≤ wordFlags + widest) × (low ≤ n) × (start ≤ 2 ^ n) ⌝ }
     ensures { λ r. ⌜ Writes (now (out .entry)) 0 (falseFrom (rootValue n (now (xs .entry)) count root) start (2 ^ n - start)) r (now (out .exit)) ⌝ }
 {
-    let mut rows = [72623859790382856u64; MANY_WORDS];
+    let mut rows = [72623859790382856u64; MOST_TO_A_ROW];
     let mut to = [258u16; LITERALS];
-    flag_rows(&mut rows, low, 32);
+    flag_rows(&mut rows, low, MOST_WORDS);
     walk(
         xs,
         count,
@@ -65,7 +94,7 @@ fn wide(
         n,
         low,
         &mut rows,
-        32,
+        MOST_WORDS,
         &mut to,
         0,
         start,
@@ -79,14 +108,14 @@ pub fn search(xs: &[u16], count: usize, root: u16, n: usize, start: u64, out: &m
     requires { ⌜ Triplets n (now xs) count root × (start ≤ 2 ^ n) ⌝ }
     ensures { λ r. ⌜ Writes (now (out .entry)) 0 (falseFrom (rootValue n (now (xs .entry)) count root) start (2 ^ n - start)) r (now (out .exit)) ⌝ }
 {
-    if n <= 6 {
+    if n <= WORD_FLAGS {
         return narrow(xs, count, root, n, start, out);
     }
-    if n <= 8 {
+    if n <= WORD_FLAGS + 2 {
         return middle(xs, count, root, n, start, out);
     }
-    if n <= 11 {
+    if n <= MOST_FLAGS {
         return wide(xs, count, root, n, n, start, out);
     }
-    wide(xs, count, root, n, 11, start, out)
+    wide(xs, count, root, n, MOST_FLAGS, start, out)
 }

@@ -6,7 +6,7 @@ use mathlib.Core.Logic.{_⊎_, inl, inr, ⊎-elim}
 use mathlib.Core.Bool.{true, false}
 use mathlib.Core.List.{List, [], _∷_, _++_}
 use lib.ListN.{length, length-append}
-use borrow.Author.Tests.{leb-true, leb-false, le-leb}
+use borrow.Author.Tests.{leb-false, le-leb}
 use Rattle.notation.specs.Tokens.{Code, Tokens, end, at}
 use Rattle.notation.specs.Walk.{Flag, sameCode, known, seen}
 use Rattle.notation.specs.Grammar.{number}
@@ -17,12 +17,9 @@ use Rattle.reading_back.proofs.Codes.{same-self}
 use Rattle.text_laws.specs.Texts.{codeOf, seenAt, seenIn, IsFlag}
 
 -- ---- the number of a code
--- a code that was seen has one of the numbers given
-pub number-known : (c : Code) (u : List Flag) → known c u ≡ true → number c u ≤ length u
-number-known c u h = leb-true (number c u) (length u) (sym (known-number c u) ∙ h)
-
-pub known-within : (c : Code) (u : List Flag) → number c u ≤ length u → known c u ≡ true
-known-within c u h = known-number c u ∙ le-leb (number c u) (length u) h
+-- a code that has one of the numbers given was seen
+pub within-known : (c : Code) (u : List Flag) → number c u ≤ length u → known c u ≡ true
+within-known c u h = known-number c u ∙ le-leb (number c u) (length u) h
 
 -- a new code has the next number
 pub seen-new : (p : ℕ) (c : Code) (u : List Flag) → known c u ≡ false → seen p c u ≡ u ++ (record { place = p; name = c } ∷ [])

@@ -4,7 +4,7 @@ use native.Mathlib.Numerals.{add-one}
 use native.Mathlib.Omega.{arith}
 use mathlib.Core.Path.{_≡_, refl, sym, ap, _∙_}
 use mathlib.Core.Logic.{⊎-elim}
-use mathlib.Core.Bool.{Bool, true, false}
+use mathlib.Core.Bool.{true, false}
 use mathlib.Core.List.{List, [], _∷_, _++_, map, map-append, append-nil}
 use lib.ListN.{length, length-append}
 use lib.Dec.{eqb}
@@ -16,12 +16,13 @@ use Rattle.notation.specs.Guard.{Guard, flag, truth, negated, joined}
 use Rattle.notation.specs.Grammar.{number}
 use Rattle.notation.specs.Reading.{reading, guard}
 use Rattle.ground.proofs.Cases.{either, lt-or-ge}
-use Rattle.notation.proofs.Numbered.{seen-fine}
+use Rattle.notation.proofs.Numbered.{known-within, seen-fine}
 use Rattle.reading_back.specs.Written.{among, met, order, upTo}
+use Rattle.ground.proofs.Truths.{either-way}
 use Rattle.text_laws.specs.Texts.{codeOf, codesIn, leaves, seenAt, seenIn}
 use Rattle.text_laws.proofs.Passing.{numbersAt, numbersIn}
 use Rattle.text_laws.proofs.Found.{is-read}
-use Rattle.text_laws.proofs.Flags.{number-known, number-new, seen-new, seen-known, number-seen, Keeps, keeps-on, keeps-at, keeps-in}
+use Rattle.text_laws.proofs.Flags.{number-new, seen-new, seen-known, number-seen, Keeps, keeps-on, keeps-at, keeps-in}
 use Rattle.text_laws.proofs.Naming.{seen-all}
 
 -- ---- the numbers of the codes
@@ -64,10 +65,6 @@ among-append i [] v = refl
 among-append i (j ∷ w) v =
     ⊎-elim (λ (e : eqb i j ≡ true). rw e) (λ (e : eqb i j ≡ false). rw (e, among-append i w v)) (either (eqb i j))
 
-one-true : (b : Bool) → choose b true true ≡ true
-one-true true = refl
-one-true false = refl
-
 -- 1 to n are among 1 to n, and no later number is
 up-to-has : (n i : ℕ) → 0 < i → i ≤ n → among i (upTo n) ≡ true
 unfolding upTo among
@@ -77,7 +74,7 @@ up-to-has (suc n) i h l =
     (λ (e : i < suc n). rw (among-append i (upTo n) (suc n ∷ []), up-to-has n i h (omega arith)))
     (λ (e : suc n ≤ i).
     let is : i ≡ suc n = omega arith in
-    rw (among-append i (upTo n) (suc n ∷ []), eq-eqb i (suc n) is) (one-true (among i (upTo n))))
+    rw (among-append i (upTo n) (suc n ∷ []), eq-eqb i (suc n) is) (either-way (among i (upTo n))))
     (lt-or-ge i (suc n))
 
 up-to-ends : (n i : ℕ) → n < i → among i (upTo n) ≡ false
@@ -92,7 +89,7 @@ unfolding met upTo
 met-seen p c u =
     ⊎-elim
     (λ (e : known c u ≡ true).
-    rw (up-to-has (length u) (number c u) (seen-fine p c u .1) (number-known c u e), seen-known p c u e))
+    rw (up-to-has (length u) (number c u) (seen-fine p c u .1) (known-within c u e), seen-known p c u e))
     (λ (e : known c u ≡ false).
     let is : number c u ≡ suc (length u) = omega (arith, number-new c u e) in
     let long : length (seen p c u) ≡ suc (length u) =

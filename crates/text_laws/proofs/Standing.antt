@@ -15,9 +15,9 @@ use Rattle.notation.specs.Walk.{Flag, known, seen}
 use Rattle.notation.specs.Grammar.{number}
 use Rattle.ground.proofs.Cases.{either, never}
 use Rattle.notation.proofs.Cutting.{run-prefix}
-use Rattle.notation.proofs.Numbered.{seen-fine}
+use Rattle.notation.proofs.Numbered.{known-within, seen-fine}
 use Rattle.text_laws.specs.Texts.{codeOf, seenAt, seenIn, Stands, IsFlag}
-use Rattle.text_laws.proofs.Flags.{number-known, known-within, seen-new, seen-known, number-seen, Keeps, keeps-seen, flag-split}
+use Rattle.text_laws.proofs.Flags.{within-known, seen-new, seen-known, number-seen, Keeps, keeps-seen, flag-split}
 
 -- ---- codes and other tokens
 -- what is no code
@@ -167,8 +167,8 @@ unknown-before p c d u h =
     ⊎-elim
     (λ (e : known d u ≡ true).
     let k : Keeps u (seen p c u) = keeps-seen p c u in
-    let l : number d u ≤ length u = number-known d u e in
-    absurd (never (known d (seen p c u)) (known-within d (seen p c u) (omega (arith, k .same d l, k .longer))) h))
+    let l : number d u ≤ length u = known-within d u e in
+    absurd (never (known d (seen p c u)) (within-known d (seen p c u) (omega (arith, k .same d l, k .longer))) h))
     (λ (e : known d u ≡ false). e)
     (either (known d u))
 
@@ -176,7 +176,7 @@ unknown-before p c d u h =
 unknown-other : (p : ℕ) (c d : Code) (u : List Flag) → known d (seen p c u) ≡ false → code d ≡ code c → ⊥
 unknown-other p c d u h e =
     let is : c ≡ d = cc in
-    let k : known c (seen p c u) ≡ true = known-within c (seen p c u) (omega (arith, number-seen p c u, seen-fine p c u .2)) in
+    let k : known c (seen p c u) ≡ true = within-known c (seen p c u) (omega (arith, number-seen p c u, seen-fine p c u .2)) in
     never (known d (seen p c u)) (subst (λ (x : Code). known x (seen p c u) ≡ true) is k) h
 
 -- a flag was seen before, or is new and has the place where its code first stands

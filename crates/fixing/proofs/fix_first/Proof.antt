@@ -20,7 +20,7 @@ abbrev μ-loop : tie.MeasureT-loop
 start-requires : tie.Need-start-requires Inv-loop μ-loop
 start-requires c κs =
     let pre· = c .before .before .before .before .pre in
-    (pre· .0 .0, omega (arith, pre· .0))
+    (pre· .0 .0, omega arith)
 
 loop-holds : tie.Need-loop-holds Inv-loop μ-loop
 loop-holds c =
@@ -32,20 +32,14 @@ fix-triplet-requires c κs =
     let loop-test· = c .before .before .loop-test in
     let pre· = c .before .before .before .before .before .before .before .before .before .before .before .pre in
     let loop· = c .before .before .before .loop in
-    let start· = c .before .before .before .before .before .before .start in
     let args· = c .before .before .before .before .before .before .before .before .before .before .before .args in
-    ((omega (arith, loop-test· .taken, pre· .0), loop· .inv .0 .few, omega (arith, loop-test· .taken, pre· .0), omega (arith, loop-test· .taken, loop· .inv, loop· .inv .0 .few, pre· .0), omega (arith, loop-test· .taken, loop· .inv, start· .ensures .long, pre· .0)), record { kind = pre· .1 .0 .kinds _ (loop-test· .taken); y = operand-below (args· .n) (args· .b) (args· .xs .now) (loop· .j) (loop· .to) (loop· .c) (loop· .ys) _ (pre· .0 .0) (loop· .inv .0) (pre· .1 .0 .ys _ (loop-test· .taken)) (omega (arith, loop-test· .taken, loop· .inv, start· .ensures .long, pre· .0)); z = operand-below (args· .n) (args· .b) (args· .xs .now) (loop· .j) (loop· .to) (loop· .c) (loop· .ys) _ (pre· .0 .0) (loop· .inv .0) (pre· .1 .0 .zs _ (loop-test· .taken)) (omega (arith, loop-test· .taken, loop· .inv, start· .ensures .long, pre· .0)) })
+    ((omega arith, loop· .inv .0 .few, omega arith, omega arith, omega arith), record { kind = pre· .1 .0 .kinds _ (loop-test· .taken); y = operand-below (args· .n) (args· .b) (args· .xs .now) (loop· .j) (loop· .to) (loop· .c) (loop· .ys) _ (pre· .0 .0) (loop· .inv .0) (pre· .1 .0 .ys _ (loop-test· .taken)) (omega arith); z = operand-below (args· .n) (args· .b) (args· .xs .now) (loop· .j) (loop· .to) (loop· .c) (loop· .ys) _ (pre· .0 .0) (loop· .inv .0) (pre· .1 .0 .zs _ (loop-test· .taken)) (omega arith) })
 
 add-j : tie.Need-add-j Inv-loop μ-loop
-add-j c =
-    let loop-test· = c .before .before .before .before .before .before .before .loop-test in
-    let pre· = c .before .before .before .before .before .before .before .before .before .before .before .before .before .before .before .before .pre in
-    record { fits = omega (arith, loop-test· .taken, pre· .0) }
+add-j c = record { fits = omega arith }
 
 loop-less : tie.Need-loop-less Inv-loop μ-loop
-loop-less c =
-    let loop-test· = c .before .before .before .before .before .before .before .loop-test in
-    omega (arith, loop-test· .taken)
+loop-less c = omega arith
 
 loop-again : tie.Need-loop-again Inv-loop μ-loop
 loop-again c =
@@ -53,12 +47,10 @@ loop-again c =
     let loop· = c .before .before .before .before .before .before .before .before .loop in
     let loop-test· = c .before .before .before .before .before .before .before .loop-test in
     let fix-triplet· = c .before .before .before .before .fix-triplet in
-    (rw add-one (fixing-again _ _ _ _ _ _ _ _ _ _ (pre· .0 .0) (loop· .inv .0) (pre· .1 .0 .ys _ (loop-test· .taken)) (pre· .1 .0 .zs _ (loop-test· .taken)) (pre· .1 .0 .kinds _ (loop-test· .taken)) (fix-triplet· .ensures)), fix-triplet· .kept .1 .1 .0 ∙ loop· .inv .1, fix-triplet· .kept .1 .1 .1 .0 ∙ loop· .inv .2, omega (arith, loop-test· .taken))
+    (rw add-one (fixing-again _ _ _ _ _ _ _ _ _ _ (pre· .0 .0) (loop· .inv .0) (pre· .1 .0 .ys _ (loop-test· .taken)) (pre· .1 .0 .zs _ (loop-test· .taken)) (pre· .1 .0 .kinds _ (loop-test· .taken)) (fix-triplet· .ensures)), fix-triplet· .kept .1 .1 .0 ∙ loop· .inv .1, fix-triplet· .kept .1 .1 .1 .0 ∙ loop· .inv .2, omega arith)
 
 mul-t19 : tie.Need-mul-t19 Inv-loop μ-loop
-mul-t19 c =
-    let fits· = c .before .before .before .before .before .before .before .before .before .fits in
-    record { fits = omega (arith, fits· .root .fits) }
+mul-t19 c = record { fits = omega arith }
 
 slice-read-t21 : tie.Need-slice-read-t21 Inv-loop μ-loop
 slice-read-t21 c =
@@ -82,9 +74,8 @@ returns : tie.Need-returns Inv-loop μ-loop
 returns c =
     let loop· = c .before .before .loop in
     let args· = c .before .before .before .before .before .before .before .before .before .before .args in
-    let loop-test· = c .before .loop-test in
     let pre· = c .before .before .before .before .before .before .before .before .before .before .pre in
-    let e : loop· .j ≡ args· .count = omega (arith, loop-test· .left, loop· .inv .3) in fixing-done _ _ _ _ _ _ _ _ (rw e at (loop· .inv .0)) (pre· .1 .1)
+    let e : loop· .j ≡ args· .count = omega arith in fixing-done _ _ _ _ _ _ _ _ (rw e at (loop· .inv .0)) (pre· .1 .1)
 
 pub fix-first-spec : {M : Type 1} → statement M
 fix-first-spec =

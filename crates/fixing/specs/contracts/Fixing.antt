@@ -42,14 +42,14 @@ pub record Put (to : List ℕ) (j t : ℕ) (after : List ℕ) : Type 0 where
   pub odd : getD after (2 * tripletVariable (suc j) + 1) 0 ≡ negation t
   pub others : (l : ℕ) → (l / 2 ≡ tripletVariable (suc j) → ⊥) → getD after l 0 ≡ getD to l 0
 
--- the table at the start: true and false stay, the first flag is b, each further flag is one less
-pub record StartedBy (n : ℕ) (b : Bool) (to after : List ℕ) : Type 0 where
+-- the table at the start, below m: true and false stay, the first flag is b, each further flag is one less
+pub record StartedBy (b : Bool) (to after : List ℕ) (m : ℕ) : Type 0 where
   pub long : length after ≡ length to
   pub top : getD after 0 0 ≡ 0
   pub bottom : getD after 1 0 ≡ 1
   pub first : getD after 2 0 ≡ choose b 0 1
   pub not-first : getD after 3 0 ≡ choose b 1 0
-  pub others : (l : ℕ) → 4 ≤ l → l ≤ 2 * n + 3 → getD after l 0 ≡ l - 2
+  pub others : (l : ℕ) → 4 ≤ l → l < m → getD after l 0 ≡ l - 2
 
 -- triplet j is of kind 0 or 1, and what became of its operands lies below it
 pub record Operands (xs : List ℕ) (j : ℕ) (to : List ℕ) : Type 0 where

@@ -9,6 +9,7 @@ use Rattle.ground.specs.Choice.{choose}
 use Rattle.ground.specs.Bits.{bit}
 use Rattle.gaps.specs.declared.writing.Found.{Found}
 use Rattle.gaps.specs.Writing.{found, placed}
+use Rattle.rows.specs.contracts.Rows.{wordBits, wordFlags}
 
 -- the states l, written after the first m of the slice
 pub record Writes (out : List ℕ) (m : ℕ) (l : List ℕ) (answer : Found) (after : List ℕ) : Type 0 where
@@ -21,8 +22,8 @@ since start v s = choose (ltb s start) true (v s)
 
 -- how many words hold the states of n flags
 unfoldable pub wordsOf : ℕ → ℕ
-wordsOf n = choose (ltb n 6) 1 (2 ^ (n - 6))
+wordsOf n = choose (ltb n wordFlags) 1 (2 ^ (n - wordFlags))
 
 -- the bits that are states of n flags, in each of the words that hold them
 abbrev pub LiveWord : ℕ → ℕ → Type 0
-LiveWord n r = (w b : ℕ) → w < wordsOf n → b < 64 → bit r b ≡ ltb (64 * w + b) (2 ^ n)
+LiveWord n r = (w b : ℕ) → w < wordsOf n → b < wordBits → bit r b ≡ ltb (wordBits * w + b) (2 ^ n)

@@ -27,18 +27,13 @@ triplet-row-requires c κs =
     let pre· = c .before .before .before .before .before .pre in
     let loop· = c .before .before .loop in
     let args· = c .before .before .before .before .before .args in
-    (omega (arith, loop-test· .taken, pre· .0), omega (arith, loop-test· .taken, pre· .0), named-below _ _ _ (pre· .0 .0) (pre· .1 .0 .ys _ (loop-test· .taken)), named-below _ _ _ (pre· .0 .0) (pre· .1 .0 .zs _ (loop-test· .taken)), rw (loop· .inv .0 .long) (le-trans (mul-le-mul-right (args· .width) (omega (arith, loop-test· .taken))) (pre· .0 .3)))
+    (omega arith, omega arith, named-below _ _ _ (pre· .0 .0) (pre· .1 .0 .ys _ (loop-test· .taken)), named-below _ _ _ (pre· .0 .0) (pre· .1 .0 .zs _ (loop-test· .taken)), rw (loop· .inv .0 .long) (le-trans (mul-le-mul-right (args· .width) (omega arith)) (pre· .0 .3)))
 
 add-j : tie.Need-add-j Inv-loop μ-loop
-add-j c =
-    let loop-test· = c .before .before .before .before .loop-test in
-    let pre· = c .before .before .before .before .before .before .before .before .pre in
-    record { fits = omega (arith, loop-test· .taken, pre· .0) }
+add-j c = record { fits = omega arith }
 
 loop-less : tie.Need-loop-less Inv-loop μ-loop
-loop-less c =
-    let loop-test· = c .before .before .before .before .loop-test in
-    omega (arith, loop-test· .taken)
+loop-less c = omega arith
 
 loop-again : tie.Need-loop-again Inv-loop μ-loop
 loop-again c =
@@ -46,7 +41,7 @@ loop-again c =
     let loop-test· = c .before .before .before .before .loop-test in
     let loop· = c .before .before .before .before .before .loop in
     let triplet-row· = c .before .before .triplet-row in
-    (rw add-one (evaluated-more _ _ _ _ _ _ _ _ (pre· .0 .0) (pre· .1 .0) (loop-test· .taken) (loop· .inv .0) (triplet-row· .ensures)), omega (arith, loop-test· .taken))
+    (rw add-one (evaluated-more _ _ _ _ _ _ _ _ (pre· .0 .0) (pre· .1 .0) (loop-test· .taken) (loop· .inv .0) (triplet-row· .ensures)), omega arith)
 
 same-length : tie.Need-same-length Inv-loop μ-loop
 same-length c =
@@ -57,8 +52,7 @@ returns : tie.Need-returns Inv-loop μ-loop
 returns c =
     let loop· = c .before .loop in
     let args· = c .before .before .before .before .args in
-    let loop-test· = c .loop-test in
-    let e : loop· .j ≡ args· .count = omega (arith, loop-test· .left, loop· .inv .1) in rw e at (loop· .inv .0)
+    let e : loop· .j ≡ args· .count = omega arith in rw e at (loop· .inv .0)
 
 pub evaluate-spec : {M : Type 1} → statement M
 evaluate-spec =

@@ -1,22 +1,23 @@
 -- `rows::triplet_row` meets its contract: the operands' rows lie before the triplet's own, which is made of them.
-use Prim.Native.Nat.{ℕ, suc, _+_, _*_, _-_, _≤_, _<_}
+use Prim.Native.Nat.{ℕ, suc, _+_, _*_, _≤_, _<_}
 use mathlib.Core.Path.{_≡_, ap}
 use native.Mathlib.Omega.{arith}
 use borrow.Author.Needs.{needs}
+use Rattle.notation.specs.Ceilings.{flagCeiling}
 use Rattle.notation.specs.Triplets.{tripletVariable}
 use Rattle.rows.proofs.Gates.{rows-apart, or-made, xor-made}
 use Rattle.rows.proofs.triplet_row.Statement.{statement}
 use Rattle.rows.proofs.triplet_row.Tie as tie
 
 -- the operands' rows lie before the triplet's own, and that within the rows
-own : (j width : ℕ) → (25 + j) * width ≡ tripletVariable (suc j) * width
-own j width = let e : 25 + j ≡ tripletVariable (suc j) = omega arith in ap (λ u. u * width) e
+own : (j width : ℕ) → (flagCeiling + 1 + j) * width ≡ tripletVariable (suc j) * width
+own j width = let e : flagCeiling + 1 + j ≡ tripletVariable (suc j) = omega arith in ap (λ u. u * width) e
 
-before : (j v width : ℕ) → v < tripletVariable (suc j) → v * width + width ≤ (25 + j) * width
-before j v width h = rows-apart v (25 + j) width (omega arith)
+before : (j v width : ℕ) → v < tripletVariable (suc j) → v * width + width ≤ (flagCeiling + 1 + j) * width
+before j v width h = rows-apart v (flagCeiling + 1 + j) width (omega arith)
 
-within : (j width n : ℕ) → tripletVariable (suc (suc j)) * width ≤ n → (25 + j) * width + width ≤ n
-within j width n h = omega (arith, rows-apart (25 + j) (tripletVariable (suc (suc j))) width (omega arith))
+within : (j width n : ℕ) → tripletVariable (suc (suc j)) * width ≤ n → (flagCeiling + 1 + j) * width + width ≤ n
+within j width n h = omega arith
 
 mul-y : tie.Need-mul-y
 mul-y c = search needs

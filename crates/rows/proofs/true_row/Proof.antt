@@ -1,14 +1,14 @@
 -- `rows::true_row` meets its contract: the words before w are made.
-use Prim.Native.Nat.{_+_, _-_, _^_, _≤_}
+use Prim.Native.Nat.{_+_, _-_, _≤_}
 use mathlib.Core.Path.{_≡_, refl}
 use native.Mathlib.Omega.{arith}
-use Rattle.rows.specs.contracts.Rows.{RowMade}
+use Rattle.rows.specs.contracts.Rows.{allOnes, RowMade}
 use Rattle.rows.proofs.RowsMade.{row-none, row-more}
 use Rattle.rows.proofs.true_row.Statement.{statement}
 use Rattle.rows.proofs.true_row.Tie as tie
 
 abbrev Inv-loop : tie.InvT-loop
-Inv-loop rows₀ width w₀ rows w = RowMade rows₀ 0 w (λ _. 2 ^ 64 - 1) rows × (w ≤ width)
+Inv-loop rows₀ width w₀ rows w = RowMade rows₀ 0 w (λ _ r. r ≡ allOnes) rows × (w ≤ width)
 
 abbrev μ-loop : tie.MeasureT-loop
 μ-loop rows₀ width w₀ rows w = width - w
@@ -17,43 +17,21 @@ loop-holds : tie.Need-loop-holds Inv-loop μ-loop
 loop-holds c = (row-none _ _ _, omega arith)
 
 mul-rows : tie.Need-mul-rows Inv-loop μ-loop
-mul-rows c =
-    let loop-test· = c .loop-test in
-    let loop· = c .before .loop in
-    let pre· = c .before .before .pre in
-    let good· = c .before .before .good in
-    record { fits = omega (arith, loop-test· .taken, loop· .inv .0 .long, loop· .inv .1, pre·, good·) }
+mul-rows c = record { fits = omega arith }
 
 slice-write-rows : tie.Need-slice-write-rows Inv-loop μ-loop
-slice-write-rows c =
-    let loop-test· = c .loop-test in
-    let loop· = c .before .loop in
-    let pre· = c .before .before .pre in
-    let good· = c .before .before .good in
-    omega (arith, loop-test· .taken, loop· .inv .0 .long, loop· .inv .1, pre·, good·)
+slice-write-rows c = omega arith
 
 add-w : tie.Need-add-w Inv-loop μ-loop
-add-w c =
-    let loop-test· = c .loop-test in
-    let loop· = c .before .loop in
-    let pre· = c .before .before .pre in
-    let good· = c .before .before .good in
-    record { fits = omega (arith, loop-test· .taken, loop· .inv .0 .long, loop· .inv .1, pre·, good·) }
+add-w c = record { fits = omega arith }
 
 loop-less : tie.Need-loop-less Inv-loop μ-loop
-loop-less c =
-    let loop-test· = c .loop-test in
-    let loop· = c .before .loop in
-    let pre· = c .before .before .pre in
-    let good· = c .before .before .good in
-    omega (arith, loop-test· .taken, loop· .inv .0 .long, loop· .inv .1, pre·, good·)
+loop-less c = omega arith
 
 loop-again : tie.Need-loop-again Inv-loop μ-loop
 loop-again c =
     let loop· = c .before .loop in
-    let loop-test· = c .loop-test in
-    let pre· = c .before .before .pre in
-    (let e : 0 + loop· .w ≡ loop· .w = omega arith in rw e at (row-more _ _ 0 _ _ _ (loop· .inv .0) (omega (arith, loop-test· .taken, loop· .inv .0 .long, loop· .inv .1, pre·)) refl), omega (arith, loop-test· .taken))
+    (let e : 0 + loop· .w ≡ loop· .w = omega arith in rw e at (row-more _ _ 0 _ _ _ (loop· .inv .0) (omega arith) refl), omega arith)
 
 same-length : tie.Need-same-length Inv-loop μ-loop
 same-length c =
@@ -64,8 +42,7 @@ returns : tie.Need-returns Inv-loop μ-loop
 returns c =
     let loop· = c .before .loop in
     let args· = c .before .before .args in
-    let loop-test· = c .loop-test in
-    let e : loop· .w ≡ args· .width = omega (arith, loop-test· .left, loop· .inv .1) in rw e at (loop· .inv .0)
+    let e : loop· .w ≡ args· .width = omega arith in rw e at (loop· .inv .0)
 
 pub true-row-spec : {M : Type 1} → statement M
 true-row-spec =

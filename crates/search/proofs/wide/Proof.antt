@@ -1,6 +1,9 @@
 -- `search::wide` meets its contract: the walk over all states, from the start on.
 use native.Mathlib.Omega.{arith}
 use borrow.Author.Needs.{needs}
+use Prim.Native.Nat.{_+_}
+use Rattle.rows.specs.contracts.Rows.{wordFlags}
+use Rattle.search.specs.contracts.Walking.{widest}
 use Rattle.search.proofs.Walks.{searched, stretch-all, rows-all}
 use Rattle.search.proofs.wide.Statement.{statement}
 use Rattle.search.proofs.wide.Tie as tie
@@ -21,7 +24,7 @@ walk-requires : tie.Need-walk-requires
 walk-requires c κs =
     let pre· = c .before .before .before .before .before .before .before .before .pre in
     let flag-rows· = c .before .before .before .before .flag-rows in
-    ((pre· .0, rows-all _ 11 _ _ _ (pre· .1) (omega arith) (omega arith) (flag-rows· .ensures), stretch-all _ _ (pre· .0 .flags) (omega arith), omega arith), (pre· .2, omega arith))
+    ((pre· .0, rows-all _ (wordFlags + widest) _ _ _ (pre· .1) (omega arith) (omega arith) (flag-rows· .ensures), stretch-all _ _ (pre· .0 .flags) (omega arith), omega arith), (pre· .2, omega arith))
 
 same-length : tie.Need-same-length
 same-length c = search needs

@@ -5,6 +5,7 @@ use native.Mathlib.Omega.{arith}
 use lib.Pow.{shl-exact}
 use borrow.Author.Needs.{needs}
 use Rattle.gaps.proofs.Since.{words-few, words-many}
+use Rattle.rows.specs.contracts.Rows.{wordBits, wordFlags}
 use Rattle.gaps.proofs.writing.words_of.Statement.{statement}
 use Rattle.gaps.proofs.writing.words_of.Tie as tie
 
@@ -22,9 +23,8 @@ shl-result c = search needs
 returns-2 : tie.Need-returns-2
 returns-2 c =
     let args· = c .before .args in
-    let pre· = c .before .pre in
     let if1· = c .if1 in
-    shl-exact {a = 1} 1 (args· .n - 6) 64 (omega arith) (omega (arith, pre·, if1· .left)) ∙ one-times _ ∙ sym (words-many _ (if1· .left))
+    shl-exact {a = 1} 1 (args· .n - wordFlags) wordBits (omega arith) (omega arith) ∙ one-times _ ∙ sym (words-many _ (if1· .left))
 
 pub words-of-spec : {M : Type 1} → statement M
 words-of-spec = tie.close (tie.spec returns shl-result returns-2)

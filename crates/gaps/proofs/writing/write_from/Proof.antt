@@ -1,10 +1,10 @@
 -- `writing::write_from` meets its contract: the start lies before the word, behind it or in it.
-use Prim.Native.Nat.{_-_}
 use native.Mathlib.Omega.{arith}
 use borrow.Author.Needs.{needs}
 use Rattle.gaps.proofs.Written.{writes-none}
 use Rattle.gaps.proofs.Words.{marked}
 use Rattle.gaps.proofs.Since.{since-whole, since-none, since-cut}
+use Rattle.rows.specs.contracts.Rows.{wordBits}
 use Rattle.gaps.proofs.writing.write_from.Statement.{statement}
 use Rattle.gaps.proofs.writing.write_from.Tie as tie
 
@@ -19,7 +19,7 @@ returns c =
     let args· = c .before .before .before .before .before .before .args in
     let if1· = c .before .before .before .before .if1 in
     let write-word· = c .before .before .write-word in
-    rw (since-whole (args· .start) (marked (args· .word) (args· .base)) (args· .base) 64 (if1· .taken)) (write-word· .ensures)
+    rw (since-whole (args· .start) (marked (args· .word) (args· .base)) (args· .base) wordBits (if1· .taken)) (write-word· .ensures)
 
 sub-k : tie.Need-sub-k
 sub-k c = search needs
@@ -27,10 +27,8 @@ sub-k c = search needs
 returns-2 : tie.Need-returns-2
 returns-2 c =
     let args· = c .before .before .before .args in
-    let if1· = c .before .if1 in
-    let if2· = c .if2 in
     let pre· = c .before .before .before .pre in
-    rw (since-none (args· .start) (marked (args· .word) (args· .base)) (args· .base) 64 (omega (arith, if1· .left, if2· .taken))) (writes-none _ _ (pre· .0))
+    rw (since-none (args· .start) (marked (args· .word) (args· .base)) (args· .base) wordBits (omega arith)) (writes-none _ _ (pre· .0))
 
 shr-write-word : tie.Need-shr-write-word
 shr-write-word c = search needs

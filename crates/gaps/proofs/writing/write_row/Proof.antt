@@ -6,32 +6,27 @@ use borrow.Author.Needs.{needs}
 use Rattle.gaps.specs.contracts.Rows.{since}
 use Rattle.rows.proofs.Gates.{rows-apart}
 use Rattle.gaps.proofs.RowWriting.{Stretch, stretch-start, stretch-more, stretch-stop, stretch-done, rowValue, row-word, row-whole, words-within}
+use Rattle.rows.specs.contracts.Rows.{wordBits}
 use Rattle.gaps.proofs.writing.write_row.Statement.{statement}
 use Rattle.gaps.proofs.writing.write_row.Tie as tie
 
 abbrev Inv-loop : tie.InvT-loop
-Inv-loop rows root n width base start from out₀ x t live words w₀ m₀ out w m = Stretch (since start (rowValue rows root n width base)) base (64 * words) from out₀ out (64 * w) m × (w ≤ words)
+Inv-loop rows root n width base start from out₀ x t live words w₀ m₀ out w m = Stretch (since start (rowValue rows root n width base)) base (wordBits * words) from out₀ out (wordBits * w) m × (w ≤ words)
 
 abbrev μ-loop : tie.MeasureT-loop
 μ-loop rows root n width base start from out₀ x t live words w₀ m₀ out w m = words - w
 
-next : (w : ℕ) → 64 * (w + 1) ≡ 64 * w + 64
+next : (w : ℕ) → wordBits * (w + 1) ≡ wordBits * w + wordBits
 next w = omega arith
 
 cast-x : tie.Need-cast-x Inv-loop μ-loop
 cast-x c = search needs
 
 mul-x : tie.Need-mul-x Inv-loop μ-loop
-mul-x c =
-    let args· = c .before .before .args in
-    let pre· = c .before .before .pre in
-    let good· = c .before .before .good in
-    record { fits = omega (arith, rows-apart (args· .root / 2) (suc (args· .root / 2)) (args· .width) (omega arith), pre· .1, good·) }
+mul-x c = record { fits = omega arith }
 
 add-turn : tie.Need-add-turn Inv-loop μ-loop
-add-turn c =
-    let pre· = c .before .before .pre in
-    record { fits = omega (arith, pre· .1) }
+add-turn c = record { fits = omega arith }
 
 turn-requires : tie.Need-turn-requires Inv-loop μ-loop
 turn-requires c κs = search needs
@@ -122,37 +117,26 @@ returns c =
     let words-of· = c .before .before .before .before .before .before .before .before .before .words-of in
     let loop· = c .before .before .before .before .before .before .before .before .loop in
     let enum-told· = c .enum-told in
-    let loop-test· = c .before .before .before .before .before .before .before .loop-test in
     let turn· = c .before .before .before .before .before .before .before .before .before .before .before .turn in
     let live-word· = c .before .before .before .before .before .before .before .before .before .before .live-word in
     let write-from· = c .before .before .before .before .write-from in
-    rw (← row-whole (args· .rows .now) (args· .root) (args· .n) (args· .width) (args· .base) (args· .start)) (rw (← ap (λ u. 64 * u) (words-of· .ensures)) (stretch-stop _ _ _ _ _ _ _ _ (loop· .inv .0) 64 _ _ _ _ (enum-told· .given .1) (omega (arith, loop-test· .taken)) (rw (← row-word (args· .rows .now) (args· .root) (args· .n) (args· .width) (args· .base) (args· .start) (loop· .w) (turn· .result) (live-word· .result) (turn· .ensures) (live-word· .ensures) (omega (arith, loop-test· .taken, words-of· .ensures))) (write-from· .ensures))))
+    rw (← row-whole (args· .rows .now) (args· .root) (args· .n) (args· .width) (args· .base) (args· .start)) (rw (← ap (λ u. wordBits * u) (words-of· .ensures)) (stretch-stop _ _ _ _ _ _ _ _ (loop· .inv .0) wordBits _ _ _ _ (enum-told· .given .1) (omega arith) (rw (← row-word (args· .rows .now) (args· .root) (args· .n) (args· .width) (args· .base) (args· .start) (loop· .w) (turn· .result) (live-word· .result) (turn· .ensures) (live-word· .ensures) (omega arith)) (write-from· .ensures))))
 
 add-w : tie.Need-add-w Inv-loop μ-loop
-add-w c =
-    let loop-test· = c .before .before .before .before .before .before .before .before .loop-test in
-    let words-of· = c .before .before .before .before .before .before .before .before .before .before .words-of in
-    let args· = c .before .before .before .before .before .before .before .before .before .before .before .before .before .before .before .args in
-    let pre· = c .before .before .before .before .before .before .before .before .before .before .before .before .before .before .before .pre in
-    let good· = c .before .before .before .before .before .before .before .before .before .before .before .before .before .before .before .good in
-    record { fits = omega (arith, loop-test· .taken, words-of· .ensures, words-within (args· .rows .now) (args· .root) (args· .n) (args· .width) (args· .base) (args· .start) (pre· .0 .1), rows-apart (args· .root / 2) (suc (args· .root / 2)) (args· .width) (omega arith), pre· .0, pre· .1, good·) }
+add-w c = record { fits = omega arith }
 
 loop-less : tie.Need-loop-less Inv-loop μ-loop
-loop-less c =
-    let loop-test· = c .before .before .before .before .before .before .before .before .loop-test in
-    omega (arith, loop-test· .taken)
+loop-less c = omega arith
 
 loop-again : tie.Need-loop-again Inv-loop μ-loop
 loop-again c =
     let loop· = c .before .before .before .before .before .before .before .before .before .loop in
     let found· = c .before .found in
-    let loop-test· = c .before .before .before .before .before .before .before .before .loop-test in
     let write-from· = c .before .before .before .before .before .write-from in
     let args· = c .before .before .before .before .before .before .before .before .before .before .before .before .before .before .before .args in
     let turn· = c .before .before .before .before .before .before .before .before .before .before .before .before .turn in
     let live-word· = c .before .before .before .before .before .before .before .before .before .before .before .live-word in
-    let words-of· = c .before .before .before .before .before .before .before .before .before .before .words-of in
-    (rw (next (loop· .w)) (stretch-more _ _ _ _ _ _ _ _ (loop· .inv .0) 64 _ _ _ (found· .given .1) (omega (arith, loop-test· .taken)) (write-from· .kept .1 .1 .1 .1 .0) (rw (← row-word (args· .rows .now) (args· .root) (args· .n) (args· .width) (args· .base) (args· .start) (loop· .w) (turn· .result) (live-word· .result) (turn· .ensures) (live-word· .ensures) (omega (arith, loop-test· .taken, words-of· .ensures))) (write-from· .ensures))), omega (arith, loop-test· .taken))
+    (rw (next (loop· .w)) (stretch-more _ _ _ _ _ _ _ _ (loop· .inv .0) wordBits _ _ _ (found· .given .1) (omega arith) (write-from· .kept .1 .1 .1 .1 .0) (rw (← row-word (args· .rows .now) (args· .root) (args· .n) (args· .width) (args· .base) (args· .start) (loop· .w) (turn· .result) (live-word· .result) (turn· .ensures) (live-word· .ensures) (omega arith)) (write-from· .ensures))), omega arith)
 
 same-length-2 : tie.Need-same-length-2 Inv-loop μ-loop
 same-length-2 c =
@@ -164,8 +148,7 @@ returns-2 c =
     let args· = c .before .before .before .before .before .before .before .args in
     let words-of· = c .before .before .words-of in
     let loop· = c .before .loop in
-    let loop-test· = c .loop-test in
-    rw (← row-whole (args· .rows .now) (args· .root) (args· .n) (args· .width) (args· .base) (args· .start)) (rw (← ap (λ u. 64 * u) (words-of· .ensures)) (stretch-done _ _ _ _ _ _ _ _ (loop· .inv .0) (omega (arith, loop-test· .left))))
+    rw (← row-whole (args· .rows .now) (args· .root) (args· .n) (args· .width) (args· .base) (args· .start)) (rw (← ap (λ u. wordBits * u) (words-of· .ensures)) (stretch-done _ _ _ _ _ _ _ _ (loop· .inv .0) (omega arith)))
 
 pub write-row-spec : {M : Type 1} → statement M
 write-row-spec =

@@ -4,6 +4,7 @@ use native.Mathlib.Omega.{arith}
 use borrow.Author.Needs.{needs}
 use lib.Count.{trailingZeros}
 use Rattle.gaps.proofs.Words.{Rest, rest-start, rest-done, rest-within, rest-full, rest-more}
+use Rattle.rows.specs.contracts.Rows.{wordBits}
 use Rattle.gaps.proofs.writing.write_word.Statement.{statement}
 use Rattle.gaps.proofs.writing.write_word.Tie as tie
 
@@ -11,7 +12,7 @@ abbrev Inv-loop : tie.InvT-loop
 Inv-loop word base from out₀ rest₀ at₀ m₀ out rest at m = Rest word base from out₀ out rest at m
 
 abbrev μ-loop : tie.MeasureT-loop
-μ-loop word base from out₀ rest₀ at₀ m₀ out rest at m = base + 64 - at
+μ-loop word base from out₀ rest₀ at₀ m₀ out rest at m = base + wordBits - at
 
 loop-holds : tie.Need-loop-holds Inv-loop μ-loop
 loop-holds c =
@@ -20,7 +21,7 @@ loop-holds c =
     rest-start (args· .word) (args· .base) (args· .from) (args· .out .now) (pre· .0) (search needs)
 
 -- the lowest bit of what is left lies within the word
-within : (c : tie.In-loop Inv-loop μ-loop) → c .before .loop .at + trailingZeros 64 (c .before .loop .rest) + 1 ≤ c .before .before .args .base + 64
+within : (c : tie.In-loop Inv-loop μ-loop) → c .before .loop .at + trailingZeros wordBits (c .before .loop .rest) + 1 ≤ c .before .before .args .base + wordBits
 within c = omega (arith, rest-within _ _ _ _ _ _ _ _ (c .before .loop .inv) (c .loop-test .taken))
 
 cast-s : tie.Need-cast-s Inv-loop μ-loop
@@ -51,24 +52,13 @@ cast-out c =
     record { fits = omega (arith, within (c .before), pre· .1) }
 
 mul-out : tie.Need-mul-out Inv-loop μ-loop
-mul-out c =
-    let loop· = c .before .before .loop in
-    let if1· = c .if1 in
-    let good· = c .before .before .before .good in
-    record { fits = omega (arith, loop· .inv .room, loop· .inv .same, if1· .left, good·) }
+mul-out c = record { fits = omega arith }
 
 slice-write-out : tie.Need-slice-write-out Inv-loop μ-loop
-slice-write-out c =
-    let loop· = c .before .before .loop in
-    let if1· = c .if1 in
-    omega (arith, loop· .inv .room, if1· .left)
+slice-write-out c = omega arith
 
 add-m : tie.Need-add-m Inv-loop μ-loop
-add-m c =
-    let loop· = c .before .before .loop in
-    let if1· = c .if1 in
-    let good· = c .before .before .before .good in
-    record { fits = omega (arith, loop· .inv .room, loop· .inv .same, if1· .left, good·) }
+add-m c = record { fits = omega arith }
 
 add-at : tie.Need-add-at Inv-loop μ-loop
 add-at c =

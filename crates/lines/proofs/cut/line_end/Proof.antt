@@ -16,8 +16,7 @@ abbrev μ-loop : tie.MeasureT-loop
 loop-holds : tie.Need-loop-holds Inv-loop μ-loop
 loop-holds c =
     let args· = c .args in
-    let pre· = c .pre in
-    (passed-none (args· .input .now) (args· .start), omega arith, omega (arith, pre·))
+    (passed-none (args· .input .now) (args· .start), omega arith, omega arith)
 
 shared-slice-read-if1 : tie.Need-shared-slice-read-if1 Inv-loop μ-loop
 shared-slice-read-if1 c = search needs
@@ -42,15 +41,14 @@ loop-again c =
     let loop· = c .before .before .before .loop in
     let loop-test· = c .before .before .loop-test in
     let if1· = c .if1 in
-    (passed-more (args· .input .now) (args· .start) (loop· .at) (loop· .inv .1) (loop-test· .taken) (if1· .left) (loop· .inv .0), omega (arith, loop· .inv .1), omega (arith, loop-test· .taken))
+    (passed-more (args· .input .now) (args· .start) (loop· .at) (loop· .inv .1) (loop-test· .taken) (if1· .left) (loop· .inv .0), omega arith, omega arith)
 
 returns-2 : tie.Need-returns-2 Inv-loop μ-loop
 returns-2 c =
     let args· = c .before .before .args in
     let loop· = c .before .loop in
     let pre· = c .before .before .pre in
-    let loop-test· = c .loop-test in
-    end-at-end (args· .input .now) (args· .start) (loop· .at) pre· (omega (arith, loop· .inv .2, loop-test· .left)) (loop· .inv .0)
+    end-at-end (args· .input .now) (args· .start) (loop· .at) pre· (omega arith) (loop· .inv .0)
 
 pub line-end-spec : {M : Type 1} → statement M
 line-end-spec =

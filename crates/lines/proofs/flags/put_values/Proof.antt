@@ -18,20 +18,13 @@ loop-holds c =
     written-none (args· .text .now) (args· .codes .now) (args· .flags) (args· .state) (args· .out .now) (args· .at)
 
 sub-bit-of : tie.Need-sub-bit-of Inv-loop μ-loop
-sub-bit-of c =
-    let loop-test· = c .loop-test in
-    omega (arith, loop-test· .taken)
+sub-bit-of c = omega arith
 
 sub-bit-of-2 : tie.Need-sub-bit-of-2 Inv-loop μ-loop
-sub-bit-of-2 c =
-    let loop-test· = c .loop-test in
-    omega (arith, loop-test· .taken)
+sub-bit-of-2 c = omega arith
 
 bit-of-requires : tie.Need-bit-of-requires Inv-loop μ-loop
-bit-of-requires c κs =
-    let loop-test· = c .loop-test in
-    let pre· = c .before .before .before .before .before .pre in
-    omega (arith, loop-test· .taken, pre· .0 .few)
+bit-of-requires c κs = omega arith
 
 put-flag-requires : tie.Need-put-flag-requires Inv-loop μ-loop
 put-flag-requires c κs =
@@ -39,15 +32,13 @@ put-flag-requires c κs =
     let loop· = c .before .before .before .loop in
     let pre· = c .before .before .before .before .before .before .before .pre in
     let loop-test· = c .before .before .loop-test in
-    (table-first (args· .text .now) (args· .codes .now) (args· .flags) (loop· .i) (pre· .0) (loop-test· .taken), omega (arith, loop· .inv .room, loop· .inv .long, loop-test· .taken, pre· .1))
+    (table-first (args· .text .now) (args· .codes .now) (args· .flags) (loop· .i) (pre· .0) (loop-test· .taken), omega arith)
 
 add-i : tie.Need-add-i Inv-loop μ-loop
 add-i c = search needs
 
 loop-less : tie.Need-loop-less Inv-loop μ-loop
-loop-less c =
-    let loop-test· = c .before .before .before .before .before .loop-test in
-    omega (arith, loop-test· .taken)
+loop-less c = omega arith
 
 loop-again : tie.Need-loop-again Inv-loop μ-loop
 loop-again c =

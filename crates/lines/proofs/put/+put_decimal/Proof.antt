@@ -56,7 +56,7 @@ put-decimal-put-decimal-requires t c κs =
     let if1· = c .before .if1 in
     let pre· = c .before .before .before .pre in
     let args· = c .before .before .before .args in
-    (omega (arith, if1· .left), omega (arith, pre· .1, more-long (args· .n) (if1· .left)))
+    (omega arith, omega (arith, pre· .1, more-long (args· .n) (if1· .left)))
 
 put-decimal-cast-put-2 : (t : ℕ) → put-decimal-lts.Need-cast-put-2 (put-decimal-in t) (put-decimal-at t) put-decimal.Post
 put-decimal-cast-put-2 t c = search needs

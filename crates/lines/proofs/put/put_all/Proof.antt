@@ -27,11 +27,7 @@ add-out : tie.Need-add-out Inv-loop μ-loop
 add-out c = search needs
 
 slice-write-out : tie.Need-slice-write-out Inv-loop μ-loop
-slice-write-out c =
-    let loop· = c .before .before .loop in
-    let loop-test· = c .before .loop-test in
-    let pre· = c .before .before .before .pre in
-    omega (arith, loop· .inv .1 .long, loop-test· .taken, pre·)
+slice-write-out c = omega arith
 
 add-i : tie.Need-add-i Inv-loop μ-loop
 add-i c = search needs
@@ -44,8 +40,7 @@ loop-again c =
     let loop-test· = c .before .loop-test in
     let args· = c .before .before .before .args in
     let loop· = c .before .before .loop in
-    let pre· = c .before .before .before .pre in
-    (omega (arith, loop-test· .taken), puts-more (args· .out .now) (args· .at) (args· .bytes .now) (loop· .out) (loop· .i) (loop-test· .taken) (omega (arith, loop· .inv .1 .long, loop-test· .taken, pre·)) (loop· .inv .1))
+    (omega arith, puts-more (args· .out .now) (args· .at) (args· .bytes .now) (loop· .out) (loop· .i) (loop-test· .taken) (omega arith) (loop· .inv .1))
 
 add-result : tie.Need-add-result Inv-loop μ-loop
 add-result c = search needs

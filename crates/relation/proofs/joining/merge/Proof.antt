@@ -25,17 +25,13 @@ loop-holds : tie.Need-loop-holds Inv-loop μ-loop
 loop-holds c =
     let pre· = c .pre in
     let args· = c .args in
-    (search needs, omega (arith, pre· .1 .inside), pre· .0 .long, (λ u p. moved-low (args· .size) (entry (args· .of .now)) (args· .lo) (args· .hi) u (pre· .0 .canonical) p), λ u p. refl)
+    (search needs, omega arith, pre· .0 .long, (λ u p. moved-low (args· .size) (entry (args· .of .now)) (args· .lo) (args· .hi) u (pre· .0 .canonical) p), λ u p. refl)
 
 mul-w : tie.Need-mul-w Inv-loop μ-loop
-mul-w c =
-    let pre· = c .before .before .pre in
-    omega (arith, pre· .0 .fits)
+mul-w c = omega arith
 
 element-copy-out-w : tie.Need-element-copy-out-w Inv-loop μ-loop
-element-copy-out-w c =
-    let pre· = c .before .before .pre in
-    omega (arith, pre· .0 .fits)
+element-copy-out-w c = omega arith
 
 moved-to-requires : tie.Need-moved-to-requires Inv-loop μ-loop
 moved-to-requires c κs =
@@ -44,19 +40,13 @@ moved-to-requires c κs =
     omega (arith, entry-at (loop· .of) (loop· .v) 0 (search needs), loop· .inv .4 (loop· .v) (search needs), pre· .0 .canonical .lower (loop· .v), pre· .0 .fits, pre· .1 .less, pre· .1 .inside)
 
 mul-of : tie.Need-mul-of Inv-loop μ-loop
-mul-of c =
-    let pre· = c .before .before .before .before .pre in
-    omega (arith, pre· .0 .fits)
+mul-of c = omega arith
 
 element-write-of : tie.Need-element-write-of Inv-loop μ-loop
-element-write-of c =
-    let pre· = c .before .before .before .before .pre in
-    omega (arith, pre· .0 .fits)
+element-write-of c = omega arith
 
 add-v : tie.Need-add-v Inv-loop μ-loop
-add-v c =
-    let pre· = c .before .before .before .before .pre in
-    omega (arith, pre· .0 .fits)
+add-v c = omega arith
 
 loop-less : tie.Need-loop-less Inv-loop μ-loop
 loop-less c = search needs
@@ -64,10 +54,9 @@ loop-less c = search needs
 loop-again : tie.Need-loop-again Inv-loop μ-loop
 loop-again c =
     let loop· = c .before .before .before .loop in
-    let pre· = c .before .before .before .before .pre in
     let moved-to· = c .moved-to in
     let args· = c .before .before .before .before .args in
-    let inside : loop· .v < length (loop· .of) = omega (arith, pre· .0 .fits) in
+    let inside : loop· .v < length (loop· .of) = omega arith in
     let moves : moved-to· .result ≡ moved (args· .lo) (args· .hi) (entry (args· .of .now) (loop· .v)) =
     moved-to· .ensures ∙ ap (moved (args· .lo) (args· .hi)) (entry-at (loop· .of) (loop· .v) 0 inside ∙ loop· .inv .4 (loop· .v) (search needs)) in (
       search needs,

@@ -68,7 +68,7 @@ loop-again c =
       search needs,
       search needs,
       counted-on (loop· .v) (entry (args· .of .now)) (loop· .count) (stands· .result) (loop· .inv .2)
-          (stands· .ensures ∙ ap₂ (λ (w u : ℕ). choose (eqb w u) 1 0) (entry-at (args· .of .now) (loop· .v) 0 (omega (arith, pre· .fits, pre· .long))) (loop· .inv .1)),
+          (stands· .ensures ∙ ap₂ (λ (w u : ℕ). choose (eqb w u) 1 0) (entry-at (args· .of .now) (loop· .v) 0 (omega arith)) (loop· .inv .1)),
     )
 
 returns-2 : tie.Need-returns-2 Inv-loop μ-loop

@@ -34,17 +34,13 @@ shared-leader-requires c κs =
     let args· = c .before .before .before .args in
     let loop· = c .before .before .loop in
     let pre· = c .before .before .before .pre in
-    (still-lower (args· .size) (args· .of .now) (loop· .of) (args· .other .now) (loop· .v) (pre· .0) (loop· .inv .1) (loop· .inv .2) (loop· .inv .3), (lowers (args· .size) (args· .other .now) (pre· .1 .0), omega (arith, pre· .0 .fits)))
+    (still-lower (args· .size) (args· .of .now) (loop· .of) (args· .other .now) (loop· .v) (pre· .0) (loop· .inv .1) (loop· .inv .2) (loop· .inv .3), (lowers (args· .size) (args· .other .now) (pre· .1 .0), omega arith))
 
 mul-of : tie.Need-mul-of Inv-loop μ-loop
-mul-of c =
-    let pre· = c .before .before .before .before .pre in
-    omega (arith, pre· .0 .fits)
+mul-of c = omega arith
 
 element-write-of : tie.Need-element-write-of Inv-loop μ-loop
-element-write-of c =
-    let pre· = c .before .before .before .before .pre in
-    omega (arith, pre· .0 .fits)
+element-write-of c = omega arith
 
 loop-less : tie.Need-loop-less Inv-loop μ-loop
 loop-less c = search needs
@@ -52,11 +48,10 @@ loop-less c = search needs
 loop-again : tie.Need-loop-again Inv-loop μ-loop
 loop-again c =
     let loop· = c .before .before .before .loop in
-    let pre· = c .before .before .before .before .pre in
     let shared-leader· = c .shared-leader in
     let args· = c .before .before .before .before .args in
     let u : ℕ = loop· .v - 1 in
-    let inside : u < length (loop· .of) = omega (arith, pre· .0 .fits) in (
+    let inside : u < length (loop· .of) = omega arith in (
       search needs,
       search needs,
       (λ j p. stored-other (loop· .of) u (shared-leader· .result) j (λ q. omega arith) ∙ loop· .inv .2 j (omega arith)),

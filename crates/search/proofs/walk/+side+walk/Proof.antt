@@ -49,28 +49,20 @@ before-it : (n low : ℕ) → low ≤ n → (n ≡ low → ⊥) → suc (n - 1) 
 before-it n low h f = omega arith
 
 side-shl-last : (t : ℕ) → side-lts.Need-shl-last (side-in t) (side-at t) side.Post
-side-shl-last t c =
-    let pre· = c .before .before .before .before .pre in
-    omega (arith, pre· .1 .0 .0 .flags)
+side-shl-last t c = omega arith
 
 side-sub-last : (t : ℕ) → side-lts.Need-sub-last (side-in t) (side-at t) side.Post
 side-sub-last t c =
     let args· = c .before .before .before .before .args in
-    let pre· = c .before .before .before .before .pre in
-    omega (arith, shifted (args· .n) (omega (arith, pre· .1 .0 .0 .flags)), pow-pos (args· .n))
+    omega (arith, shifted (args· .n) (omega arith), pow-pos (args· .n))
 
 side-add-last : (t : ℕ) → side-lts.Need-add-last (side-in t) (side-at t) side.Post
-side-add-last t c =
-    let args· = c .before .before .before .before .args in
-    let pre· = c .before .before .before .before .pre in
-    record { fits = omega (arith, shifted (args· .n) (omega (arith, pre· .1 .0 .0 .flags)), pre· .1 .0 .2 .small) }
+side-add-last t c = record { fits = omega arith }
 
 side-returns : (t : ℕ) → side-lts.Need-returns (side-in t) (side-at t) side.Post
 side-returns t c =
-    let args· = c .before .before .before .before .before .args in
     let pre· = c .before .before .before .before .before .pre in
-    let if1· = c .if1 in
-    walked-before _ _ _ _ _ _ _ _ _ (omega (arith, shifted (args· .n) (omega (arith, pre· .1 .0 .0 .flags)), if1· .taken)) (pre· .1 .0 .3) (pre· .1 .0 .1 .right)
+    walked-before _ _ _ _ _ _ _ _ _ (omega arith) (pre· .1 .0 .3) (pre· .1 .0 .1 .right)
 
 side-slice-aggregate-fix-first : (t : ℕ) → side-lts.Need-slice-aggregate-fix-first (side-in t) (side-at t) side.Post
 side-slice-aggregate-fix-first t c = search needs
@@ -78,7 +70,7 @@ side-slice-aggregate-fix-first t c = search needs
 side-fix-first-requires : (t : ℕ) → side-lts.Need-fix-first-requires (side-in t) (side-at t) side.Post
 side-fix-first-requires t c κs =
     let pre· = c .before .before .before .before .before .before .before .pre in
-    ((omega (arith, pre· .1 .0 .0 .flags), pre· .1 .0 .0 .count .0, pre· .1 .0 .0 .count .1, pre· .1 .1 .1, omega arith), (pre· .1 .0 .0 .shape, pre· .1 .0 .0 .named))
+    ((omega arith, pre· .1 .0 .0 .count .0, pre· .1 .0 .0 .count .1, pre· .1 .1 .1, omega arith), (pre· .1 .0 .0 .shape, pre· .1 .0 .0 .named))
 
 side-same-length : (t : ℕ) → side-lts.Need-same-length (side-in t) (side-at t) side.Post
 side-same-length t c =
@@ -99,7 +91,7 @@ side-walk-requires : (t : ℕ) → side-lts.Need-walk-requires (side-in t) (side
 side-walk-requires t c κs =
     let pre· = c .before .before .before .before .before .before .before .before .before .before .before .before .before .before .before .before .before .pre in
     let fix-first· = c .before .before .before .before .before .before .before .before .before .fix-first in
-    (omega (arith, pre· .0), ((triplets-left _ _ _ _ _ _ _ _ (fix-first· .ensures) (pre· .1 .0 .0 .flags) (pre· .1 .0 .0 .count .0) (rw (fix-first· .kept .1 .1 .1 .1 .1 .1 .0) (omega arith)), pre· .1 .0 .1, pre· .1 .0 .2, pre· .1 .0 .3), (pre· .1 .1 .0, rw (fix-first· .kept .1 .1 .1 .1 .1 .0) (pre· .1 .1 .1))))
+    (omega arith, ((triplets-left _ _ _ _ _ _ _ _ (fix-first· .ensures) (pre· .1 .0 .0 .flags) (pre· .1 .0 .0 .count .0) (rw (fix-first· .kept .1 .1 .1 .1 .1 .1 .0) (omega arith)), pre· .1 .0 .1, pre· .1 .0 .2, pre· .1 .0 .3), (pre· .1 .1 .0, rw (fix-first· .kept .1 .1 .1 .1 .1 .0) (pre· .1 .1 .1))))
 
 side-same-length-2 : (t : ℕ) → side-lts.Need-same-length-2 (side-in t) (side-at t) side.Post
 side-same-length-2 t c =
@@ -147,28 +139,20 @@ walk-returns t c =
     rw (← if1· .taken) (block· .ensures)
 
 walk-sub-half : (t : ℕ) → walk-lts.Need-sub-half (walk-in t) (walk-at t) walk.Post
-walk-sub-half t c =
-    let if1· = c .if1 in
-    let pre· = c .before .before .before .before .before .pre in
-    omega (arith, if1· .left, pre· .1 .1 .0)
+walk-sub-half t c = omega arith
 
 walk-shl-half : (t : ℕ) → walk-lts.Need-shl-half (walk-in t) (walk-at t) walk.Post
-walk-shl-half t c =
-    let pre· = c .before .before .before .before .before .pre in
-    omega (arith, pre· .1 .0 .0 .flags)
+walk-shl-half t c = omega arith
 
 walk-sub-side : (t : ℕ) → walk-lts.Need-sub-side (walk-in t) (walk-at t) walk.Post
-walk-sub-side t c =
-    let if1· = c .if1 in
-    let pre· = c .before .before .before .before .before .pre in
-    omega (arith, if1· .left, pre· .1 .1 .0)
+walk-sub-side t c = omega arith
 
 walk-side-requires : (t : ℕ) → walk-lts.Need-side-requires (walk-in t) (walk-at t) walk.Post
 walk-side-requires t c κs =
     let pre· = c .before .before .before .before .before .before .before .before .pre in
     let if1· = c .before .before .before .if1 in
     let args· = c .before .before .before .before .before .before .before .before .args in
-    (omega (arith, pre· .0, if1· .left, pre· .1 .1 .0), ((rw (before-it (args· .n) (args· .low) (pre· .1 .1 .0) (if1· .left)) (pre· .1 .0 .0), pre· .1 .0 .1, stretch-lower _ _ _ _ (before-it (args· .n) (args· .low) (pre· .1 .1 .0) (if1· .left)) (pre· .1 .0 .2), pre· .1 .0 .3), (omega (arith, if1· .left, pre· .1 .1 .0), pre· .1 .1 .1, half-lower _ _ _ _ (before-it (args· .n) (args· .low) (pre· .1 .1 .0) (if1· .left)) (pre· .1 .0 .2))))
+    (omega arith, ((rw (before-it (args· .n) (args· .low) (pre· .1 .1 .0) (if1· .left)) (pre· .1 .0 .0), pre· .1 .0 .1, stretch-lower _ _ _ _ (before-it (args· .n) (args· .low) (pre· .1 .1 .0) (if1· .left)) (pre· .1 .0 .2), pre· .1 .0 .3), (omega arith, pre· .1 .1 .1, half-lower _ _ _ _ (before-it (args· .n) (args· .low) (pre· .1 .1 .0) (if1· .left)) (pre· .1 .0 .2))))
 
 walk-enum-known-found : (t : ℕ) → walk-lts.Need-enum-known-found (walk-in t) (walk-at t) walk.Post
 walk-enum-known-found t c = search needs
@@ -201,17 +185,14 @@ walk-returns-2 t c =
     rw (before-it (args· .n) (args· .low) (pre· .1 .1 .0) (if1· .left)) at (walked-stop _ _ _ _ _ _ _ _ _ _ _ _ _ (enum-told· .given .1) (side· .ensures))
 
 walk-sub-side-2 : (t : ℕ) → walk-lts.Need-sub-side-2 (walk-in t) (walk-at t) walk.Post
-walk-sub-side-2 t c =
-    let if1· = c .before .before .before .before .before .before .before .before .before .before .before .before .before .if1 in
-    let pre· = c .before .before .before .before .before .before .before .before .before .before .before .before .before .before .before .before .before .before .pre in
-    omega (arith, if1· .left, pre· .1 .1 .0)
+walk-sub-side-2 t c = omega arith
 
 walk-add-side : (t : ℕ) → walk-lts.Need-add-side (walk-in t) (walk-at t) walk.Post
 walk-add-side t c =
     let args· = c .before .before .before .before .before .before .before .before .before .before .before .before .before .before .before .before .before .before .before .before .args in
     let pre· = c .before .before .before .before .before .before .before .before .before .before .before .before .before .before .before .before .before .before .before .before .pre in
     let if1· = c .before .before .before .before .before .before .before .before .before .before .before .before .before .before .before .if1 in
-    record { fits = omega (arith, (shifted (args· .n - 1) (omega (arith, pre· .1 .0 .0 .flags))), pre· .1 .0 .2 .small, stretch-upper _ _ _ _ _ (before-it (args· .n) (args· .low) (pre· .1 .1 .0) (if1· .left)) (shifted (args· .n - 1) (omega (arith, pre· .1 .0 .0 .flags))) (pre· .1 .0 .2) .small) }
+    record { fits = omega (arith, (shifted (args· .n - 1) (omega arith)), pre· .1 .0 .2 .small, stretch-upper _ _ _ _ _ (before-it (args· .n) (args· .low) (pre· .1 .1 .0) (if1· .left)) (shifted (args· .n - 1) (omega arith)) (pre· .1 .0 .2) .small) }
 
 walk-side-requires-2 : (t : ℕ) → walk-lts.Need-side-requires-2 (walk-in t) (walk-at t) walk.Post
 walk-side-requires-2 t c κs =
@@ -220,7 +201,7 @@ walk-side-requires-2 t c κs =
     let args· = c .before .before .before .before .before .before .before .before .before .before .before .before .before .before .before .before .before .before .before .before .before .args in
     let side· = c .before .before .before .before .before .before .before .before .before .before .before .before .side in
     let found· = c .before .before .before .before .found in
-    (omega (arith, pre· .0, if1· .left, pre· .1 .1 .0), ((rw (before-it (args· .n) (args· .low) (pre· .1 .1 .0) (if1· .left)) (pre· .1 .0 .0), rows-again _ _ _ _ (pre· .1 .0 .1) (side· .kept .1 .1 .1 .1 .1 .1 .0) (side· .ensures .right), stretch-upper _ _ _ _ _ (before-it (args· .n) (args· .low) (pre· .1 .1 .0) (if1· .left)) (shifted (args· .n - 1) (omega (arith, pre· .1 .0 .0 .flags))) (pre· .1 .0 .2), rw (side· .kept .1 .1 .1 .1 .1 .1 .1 .1 .1 .1 .1 .1 .0) (writes-room _ _ _ _ _ _ (found· .given .1) (side· .ensures .writes))), (omega (arith, if1· .left, pre· .1 .1 .0), rw (side· .kept .1 .1 .1 .1 .1 .1 .1 .1 .0) (pre· .1 .1 .1), half-upper _ _ _ _ _ (before-it (args· .n) (args· .low) (pre· .1 .1 .0) (if1· .left)) (shifted (args· .n - 1) (omega (arith, pre· .1 .0 .0 .flags))) (pre· .1 .0 .2))))
+    (omega arith, ((rw (before-it (args· .n) (args· .low) (pre· .1 .1 .0) (if1· .left)) (pre· .1 .0 .0), rows-again _ _ _ _ (pre· .1 .0 .1) (side· .kept .1 .1 .1 .1 .1 .1 .0) (side· .ensures .right), stretch-upper _ _ _ _ _ (before-it (args· .n) (args· .low) (pre· .1 .1 .0) (if1· .left)) (shifted (args· .n - 1) (omega arith)) (pre· .1 .0 .2), rw (side· .kept .1 .1 .1 .1 .1 .1 .1 .1 .1 .1 .1 .1 .0) (writes-room _ _ _ _ _ _ (found· .given .1) (side· .ensures .writes))), (omega arith, rw (side· .kept .1 .1 .1 .1 .1 .1 .1 .1 .0) (pre· .1 .1 .1), half-upper _ _ _ _ _ (before-it (args· .n) (args· .low) (pre· .1 .1 .0) (if1· .left)) (shifted (args· .n - 1) (omega arith)) (pre· .1 .0 .2))))
 
 walk-same-length-6 : (t : ℕ) → walk-lts.Need-same-length-6 (walk-in t) (walk-at t) walk.Post
 walk-same-length-6 t c =
@@ -248,7 +229,7 @@ walk-returns-3 t c =
     let found· = c .before .before .before .before .before .before .before .before .before .before .before .found in
     let side· = c .before .before .before .before .before .before .before .before .before .before .before .before .before .before .before .before .before .before .before .side in
     let side2· = c .before .before .before .before .before .before .side2 in
-    rw (before-it (args· .n) (args· .low) (pre· .1 .1 .0) (if1· .left)) at (walked-both _ _ _ _ _ _ _ _ _ _ _ _ _ _ _ (found· .given .1) (side· .ensures) (rw (shifted (args· .n - 1) (omega (arith, pre· .1 .0 .0 .flags))) at (side2· .ensures)))
+    rw (before-it (args· .n) (args· .low) (pre· .1 .1 .0) (if1· .left)) at (walked-both _ _ _ _ _ _ _ _ _ _ _ _ _ _ _ (found· .given .1) (side· .ensures) (rw (shifted (args· .n - 1) (omega arith)) at (side2· .ensures)))
 
 pub +side+walk-spec : {M : Type 1} → statement M
 +side+walk-spec = close μ-side μ-walk (λ t. side-lts.spec (side-in t) (side-at t)
