@@ -19,19 +19,17 @@ use Rattle.steps.specs.contracts.Resting.{inUse, tripletsAt}
 use Rattle.steps.proofs.Resting.{readable-from}
 use Rattle.steps.proofs.Listing.{triplets-read}
 use Rattle.saturation.specs.Saturation.{Flags}
-use Rattle.saturation.specs.Answer.{Answer}
+use Rattle.saturation.specs.Answer.{Checked}
 use Rattle.saturation.proofs.Confirmed.{full-covered, full-gap}
 use Rattle.gaps.specs.Gaps.{falseFrom}
 use Rattle.gaps.specs.Writing.{found}
 use Rattle.gaps.specs.contracts.Rows.{Writes}
 use Rattle.gaps.proofs.Ascending.{false-not, false-one}
-use Rattle.guard_check.specs.Check.{GuardSays}
-use Rattle.guard_check.specs.contracts.Verdicts.{verdictOf}
-use Rattle.guard_check.specs.contracts.Decision.{FromGuard, Askable, Decided, FullyDecided, firstGap, meant}
+use Rattle.guard_check.specs.contracts.Deciding.{FromGuard, Askable, Decided, FullyDecided, firstGap}
 use Rattle.gaps.specs.declared.writing.Found.{Found}
 use Rattle.gaps.specs.declared.writing.Found.the-variants.{Done, More}
-use Rattle.guard_check.specs.declared.decide.Decision.{Decision}
-use Rattle.guard_check.specs.declared.decide.Decision.the-variants.{Covered, Gap, Undecided}
+use Rattle.saturation.specs.declared.verdict.Verdict.{Verdict}
+use Rattle.saturation.specs.declared.verdict.Verdict.the-variants.{Covered, Gap}
 
 -- ---- what a list of states says
 pub first-of : (v : ℕ → Bool) (lo k s : ℕ) (l : List ℕ) → falseFrom v lo k ≡ s ∷ l
@@ -84,10 +82,10 @@ module _ (xs : List ℕ) (c n root : ℕ) (g : Guard) (count : c ≡ connectives
       let e : length (triplets 0 g) ≡ c = count-triplets 0 g ∙ sym (count) in
       rw e at (triplets-read xs (triplets 0 g) (rw e (written)))
 
-  pub at-guard : (k : ℕ) (r : Decision) → Answer (Flags n) (triplets 0 g) (literal 0 g) k n (meant r) → Decided xs c n root k r
+  pub at-guard : (k : ℕ) (r : Verdict) → Checked n g k r → Decided xs c n root k r
   at-guard k r a = rw (listed, literal-of) a
 
-  pub of-guard : (k : ℕ) (r : Decision) → Decided xs c n root k r → Answer (Flags n) (triplets 0 g) (literal 0 g) k n (meant r)
+  pub of-guard : (k : ℕ) (r : Verdict) → Decided xs c n root k r → Checked n g k r
   of-guard k r a = rw (listed, literal-of) at a
 
 module _ (xs : List ℕ) (c n root : ℕ) (from : FromGuard xs c n root) where
@@ -124,14 +122,12 @@ module _ (xs : List ℕ) (c n root : ℕ) (from : FromGuard xs c n root) where
   its-value : (s : ℕ) → rootValue n xs c root s ≡ value n s g
   its-value = written-value n c root g xs begins
 
-  its-answer : (k : ℕ) (r : Decision) → Answer (Flags n) (triplets 0 g) (literal 0 g) k n (meant r) → Decided xs c n root k r
+  its-answer : (k : ℕ) (r : Verdict) → Checked n g k r → Decided xs c n root k r
   its-answer = at-guard xs c n root g (from .count) (from .literal) (from .written)
 
   -- what is decided of the triplets is the verdict on the guard
-  pub guard-says : (k : ℕ) (r : Decision) → Decided xs c n root k r → GuardSays n g k (verdictOf r)
-  guard-says k Covered a = of-guard xs c n root g (from .count) (from .literal) (from .written) k Covered a
-  guard-says k (Gap s) a = of-guard xs c n root g (from .count) (from .literal) (from .written) k (Gap s) a
-  guard-says k Undecided a = of-guard xs c n root g (from .count) (from .literal) (from .written) k Undecided a
+  pub guard-says : (k : ℕ) (r : Verdict) → Decided xs c n root k r → Checked n g k r
+  guard-says = of-guard xs c n root g (from .count) (from .literal) (from .written)
 
   -- the list of all gaps, with nothing written of it, says the answer
   fully : (l : List ℕ) → falseFrom (rootValue n xs c root) 0 (2 ^ n - 0) ≡ l → FullyDecided xs c n root (firstGap (found l 0))
@@ -148,6 +144,6 @@ module _ (xs : List ℕ) (c n root : ℕ) (from : FromGuard xs c n root) where
       (full-gap (Flags n) n g (from .proper) (λ f d. d) k h s (omega (arith, p .1)) (sym (its-value s) ∙ p .2)
       (λ t b. sym (its-value t) ∙ p .3 t (omega arith) b)))
 
-  pub fully-found : {out after : List ℕ} (r : Found) (d : Decision) → Writes out 0 (falseFrom (rootValue n xs c root) 0 (2 ^ n - 0)) r after
+  pub fully-found : {out after : List ℕ} (r : Found) (d : Verdict) → Writes out 0 (falseFrom (rootValue n xs c root) 0 (2 ^ n - 0)) r after
       → length out ≡ 0 → d ≡ firstGap r → FullyDecided xs c n root d
   fully-found r d w e q = rw (q, w .answers, e) (fully (falseFrom (rootValue n xs c root) 0 (2 ^ n - 0)) refl)

@@ -28,8 +28,8 @@ use Rattle.saturation.proofs.Fixed.{negation-even}
 use Rattle.saturation.proofs.Splits.{refuted-held, trial-next}
 use Rattle.saturation.proofs.Saturating.{saturated-joined}
 use Rattle.saturation.proofs.Confirmed.{trial-below}
-use Rattle.guard_check.specs.contracts.Decision.{Tested, Decided}
-use Rattle.guard_check.specs.declared.decide.Decision.the-variants.{Covered, Gap, Undecided}
+use Rattle.guard_check.specs.contracts.Deciding.{Tested, Decided}
+use Rattle.saturation.specs.declared.verdict.Verdict.the-variants.{Covered, Gap, Undecided}
 
 -- ---- a flag and its negation
 turned-over : (A : Rel) (f : ℕ) → IsRelation A → A (2 * f) 1 ≡ true → A (2 * f + 1) 0 ≡ true

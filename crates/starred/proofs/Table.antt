@@ -24,7 +24,7 @@ use Rattle.list.specs.declared.Listing.the-variants as listing
 use Rattle.starred.proofs.Checked as desk
 use Rattle.starred.specs.Table.{implication, DeskTable}
 use Rattle.ground.specs.Bytes.{bytes}
-use Rattle.guard_check.specs.declared.verdicts.Verdict.the-variants.{Covered, Gap, Undecided}
+use Rattle.saturation.specs.declared.verdict.Verdict.the-variants.{Covered, Gap, Undecided}
 use Rattle.guard_check.proofs.Checking.{guard-too}
 
 -- the flag at a place with a code of one byte

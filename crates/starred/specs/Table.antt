@@ -13,8 +13,8 @@ use Rattle.list.specs.Listed.{Lists}
 use Rattle.gaps.specs.declared.writing.Found.the-variants.{Done, More}
 use Rattle.list.specs.declared.Listing.the-variants as listing
 use Rattle.guard_check.specs.Check.{CheckSays}
-use Rattle.guard_check.specs.declared.verdicts.Verdict.{Verdict}
-use Rattle.guard_check.specs.declared.verdicts.Verdict.the-variants.{Covered, Gap, Undecided}
+use Rattle.saturation.specs.declared.verdict.Verdict.{Verdict}
+use Rattle.saturation.specs.declared.verdict.Verdict.the-variants.{Covered, Gap, Undecided}
 use Rattle.ground.specs.Bytes.{bytes}
 
 -- the text is a guard with these triplets

@@ -10,11 +10,11 @@ use Rattle.notation.specs.Triplets.{literal, triplets, numbers}
 use Rattle.relation.specs.contracts.Classes.{Classes, kept}
 use Rattle.steps.specs.contracts.Resting.{Readable, inUse, tripletsAt}
 use Rattle.saturation.specs.Saturation.{taking, Saturated, SaturationOf, Flags}
-use Rattle.saturation.specs.Answer.{Proper, Verdict, covered, gap, undecided, flagAs, Answer}
+use Rattle.saturation.specs.Answer.{Proper, flagAs, Answer}
 use Rattle.gaps.specs.declared.writing.Found.{Found}
 use Rattle.gaps.specs.declared.writing.Found.the-variants.{Done, More}
-use Rattle.guard_check.specs.declared.decide.Decision.{Decision}
-use Rattle.guard_check.specs.declared.decide.Decision.the-variants.{Covered, Gap, Undecided}
+use Rattle.saturation.specs.declared.verdict.Verdict.{Verdict}
+use Rattle.saturation.specs.declared.verdict.Verdict.the-variants.{Covered, Gap}
 
 -- xs begins with c triplets over n flags, of which root is a literal
 pub record Askable (xs : List ℕ) (c n root : ℕ) : Type 0 where
@@ -32,22 +32,16 @@ pub record FromGuard (xs : List ℕ) (c n root : ℕ) : Type 0 where
   pub literal : root ≡ literal 0 guard
   pub written : take (3 * c) xs ≡ numbers (triplets 0 guard)
 
--- the answer that a decision is
-abbrev pub meant : Decision → Verdict
-meant Covered = covered
-meant (Gap s) = gap s
-meant Undecided = undecided
-
 -- what check answers at depth k for the first c triplets over n flags
-abbrev pub Decided : List ℕ → ℕ → ℕ → ℕ → ℕ → Decision → Type 0
-Decided xs c n root k r = Answer (Flags n) (tripletsAt xs c) root k n (meant r)
+abbrev pub Decided : List ℕ → ℕ → ℕ → ℕ → ℕ → Verdict → Type 0
+Decided xs c n root k r = Answer (Flags n) (tripletsAt xs c) root k n r
 
 -- what check answers at each depth that is not below the number of flags
-abbrev pub FullyDecided : List ℕ → ℕ → ℕ → ℕ → Decision → Type 0
+abbrev pub FullyDecided : List ℕ → ℕ → ℕ → ℕ → Verdict → Type 0
 FullyDecided xs c n root r = (k : ℕ) → n ≤ k → Decided xs c n root k r
 
 -- no gap found is covered
-abbrev pub firstGap : Found → Decision
+abbrev pub firstGap : Found → Verdict
 firstGap (Done m) = Covered
 firstGap (More m s) = Gap s
 
