@@ -11,7 +11,8 @@ use Rattle.notation.specs.Ceilings.{flagCeiling}
 use Rattle.notation.specs.Triplets.{tripletVariable, negation}
 use Rattle.notation.specs.contracts.Shape.{Names, Shape, kindAt, yAt, zAt}
 use Rattle.ground.specs.Bits.{bit}
-use Rattle.truth.specs.contracts.Computed.{literalValue, gate, computed}
+use Rattle.truth.specs.Connectives.{gate}
+use Rattle.truth.specs.contracts.Computed.{literalValue, computed}
 use Rattle.truth.proofs.Literals.{parity, literal-even, literal-odd, literal-negation, literal-agrees}
 use Rattle.truth.proofs.Computing.{named-kept, named-cases, valued, computed-same, triplet-made, flag-kept, true-at-start, flag-at-start}
 use Rattle.fixing.specs.contracts.Fixing.{Stands, Fixing, Fixed}
