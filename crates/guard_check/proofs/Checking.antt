@@ -12,7 +12,7 @@ use Rattle.notation.specs.Reading.{Reading, refusal, guard, reading}
 use Rattle.notation.specs.declared.refusal.Refusal.{Refusal}
 use Rattle.reading.specs.declared.parse.Guard as counted
 use Rattle.reading.proofs.Serving.{Found}
-use Rattle.notation.proofs.Accepted.{reading-within}
+use Rattle.read_truth.proofs.Begun.{read-flags, read-begins, read-triplets}
 use Rattle.guard_check.specs.Check.{depthCeiling, asked, ReadingSays, CheckSays}
 use Rattle.guard_check.specs.contracts.Deciding.{FromGuard, Decided}
 use Rattle.saturation.specs.Answer.{Checked}
@@ -45,21 +45,10 @@ pub too-deep : (text : List ℕ) (depth : ℕ) → length text ≤ textCeiling �
 too-deep text depth h d = says text depth (refusal 2 0) _ (asks-deep text depth h d) refl
 
 -- a guard in the tables is one that can be decided
-abbrev pub from-tables : (text codes out : List ℕ) (x : counted.Guard) → Found text (reading text) x codes out → 3 * connectiveCeiling ≤ length out
+abbrev pub from-tables : (text codes out : List ℕ) (x : counted.Guard) → Found text (reading text) x codes out → length out ≡ 3 * connectiveCeiling
     → FromGuard out (x .count) (x .flags) (x .root)
 from-tables text codes out x f l =
-    record {
-      guard = f .tree;
-      proper = record {
-        few = rw (f .counts) (f .read .few);
-        within = rw (f .counts) (reading-within text (f .tree) (f .flags) (f .says));
-      };
-      few = rw (f .counts) (f .read .short);
-      long = rw (f .counts) (omega (arith, f .read .short));
-      count = rw (f .counts);
-      literal = rw (f .counts);
-      written = rw (f .counts) (f .read .written);
-    }
+    record { guard = f .tree; begins = read-begins text x codes out f; room = read-triplets text x codes out f l .count }
 
 module _ (text : List ℕ) (depth : ℕ) (h : length text ≤ textCeiling) (d : depth ≤ depthCeiling) where
   -- a refusal of the text is passed on
@@ -71,10 +60,9 @@ module _ (text : List ℕ) (depth : ℕ) (h : length text ≤ textCeiling) (d : 
   guard-too g u e r s = says text depth (guard g u) r (asks-text text depth h d ∙ e) s
 
   -- what is decided of the tables is the verdict on the text
-  pub tables-say : (codes out : List ℕ) (x : counted.Guard) (f : Found text (reading text) x codes out) (l : 3 * connectiveCeiling ≤ length out)
+  pub tables-say : (codes out : List ℕ) (x : counted.Guard) (f : Found text (reading text) x codes out) (l : length out ≡ 3 * connectiveCeiling)
       (r : Verdict) → Decided out (x .count) (x .flags) (x .root) depth r → CheckSays text depth r
   tables-say codes out x f l r a =
-      let n : x .flags ≡ length (f .flags) = rw (f .counts) in
       let s : Checked (x .flags) (f .tree) depth r =
       guard-says out (x .count) (x .flags) (x .root) (from-tables text codes out x f l) depth r a in
-      guard-too (f .tree) (f .flags) (f .says) r (subst (λ (m : ℕ). Checked m (f .tree) depth r) n s)
+      guard-too (f .tree) (f .flags) (f .says) r (rw (read-flags text x codes out f) at s)

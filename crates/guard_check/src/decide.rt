@@ -9,11 +9,12 @@ use saturation::saturate::saturate;
 use saturation::verdict::Verdict;
 use steps::rest::FIRST;
 ghost use Prim.Native.Nat.{ℕ, _+_, _*_, _≤_, _<_};
+ghost use Rattle.truth.specs.contracts.Computed.{Triplets};
 ghost use Rattle.relation.specs.contracts.Classes.{kept};
 ghost use Rattle.steps.specs.contracts.Resting.{tripletsAt};
 ghost use Rattle.saturation.specs.Saturation.{Stable, Flags};
 ghost use Rattle.saturation.specs.contracts.Saturating.{Ready};
-ghost use Rattle.guard_check.specs.contracts.Deciding.{Askable, Tested, Decided};
+ghost use Rattle.guard_check.specs.contracts.Deciding.{Tested, Decided};
 
 // Fixes a flag: to 0, or to 1 where 0 is contradictory, and saturates. Answers the value. A flag that is tied has it already.
 fn test(
@@ -51,7 +52,7 @@ fn test(
 
 // Starts from "root = false", saturated; then tries the flags in order.
 pub fn decide(triplets: &[u16], count: usize, flags: usize, root: u16, depth: u64) -> Verdict
-    requires { ⌜ Askable (now triplets) count flags root ⌝ }
+    requires { ⌜ Triplets flags (now triplets) count root ⌝ }
     ensures { λ r. ⌜ Decided (now (triplets .entry)) count flags root depth r ⌝ }
 {
     let start = fresh();

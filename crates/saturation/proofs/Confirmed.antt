@@ -14,7 +14,8 @@ use Rattle.notation.specs.Triplets.{Triplet, negation, literal, triplets}
 use Rattle.truth.specs.Value.{value}
 use Rattle.truth.proofs.Literals.{parity}
 use Rattle.saturation.specs.Saturation.{taken, Flags}
-use Rattle.saturation.specs.Answer.{Proper, flagAs, flagsAs, Refuted, Trial, Answer}
+use Rattle.truth.specs.contracts.Written.{Proper}
+use Rattle.saturation.specs.Answer.{flagAs, flagsAs, Refuted, Trial, Answer}
 use Rattle.saturation.proofs.Depth.{raised}
 use Rattle.saturation.proofs.States.{firstOf, first-all, first-half}
 use Rattle.saturation.specs.declared.verdict.Verdict.the-variants.{Covered, Gap}

@@ -13,7 +13,8 @@ use Rattle.relation.specs.Relation.{Rel, IsRelation}
 use Rattle.truth.specs.Value.{value}
 use Rattle.truth.proofs.Literals.{parity}
 use Rattle.saturation.specs.Saturation.{Stable, Flags}
-use Rattle.saturation.specs.Answer.{Proper, flagAs, flagsAs, Refuted, Trial, Answer}
+use Rattle.truth.specs.contracts.Written.{Proper}
+use Rattle.saturation.specs.Answer.{flagAs, flagsAs, Refuted, Trial, Answer}
 use Rattle.saturation.proofs.Taking.{HoldsAll, taken-above, taking-above, taking-holds}
 use Rattle.saturation.proofs.Depth.{stable-rest}
 use Rattle.saturation.proofs.States.{not-both, firstOf, holds-more}

@@ -17,7 +17,8 @@ use Rattle.truth.proofs.Literals.{literal-even, literal-negation, parity}
 use Rattle.steps.specs.Rest.{NoStepEnlarges}
 use Rattle.steps.proofs.Sides.{negation-twice}
 use Rattle.saturation.specs.Saturation.{taken, Saturated}
-use Rattle.saturation.specs.Answer.{Proper, flagAs, flagsAs, Refuted, Trial, Answer}
+use Rattle.truth.specs.contracts.Written.{Proper}
+use Rattle.saturation.specs.Answer.{flagAs, flagsAs, Refuted, Trial, Answer}
 use Rattle.saturation.specs.declared.verdict.Verdict.{Verdict}
 use Rattle.saturation.specs.declared.verdict.Verdict.the-variants.{Covered, Gap, Undecided, Refused}
 use Rattle.saturation.proofs.Taking.{HoldsAll, above-taken, taken-above}

@@ -1,20 +1,13 @@
 -- What check answers at a depth, by saturation and the trial of flags.
-use Prim.Native.Nat.{ℕ, zero, suc, _+_, _*_, _/_, _%_, _≤_}
+use Prim.Native.Nat.{ℕ, zero, suc, _+_, _*_, _/_, _%_}
 use mathlib.Core.Path.{_≡_}
 use mathlib.Core.List.{List, [], _∷_}
 use mathlib.Core.Logic.{_↔_}
-use Rattle.notation.specs.Ceilings.{flagCeiling}
 use Rattle.notation.specs.Guard.{Guard}
 use Rattle.notation.specs.Triplets.{Triplet, negation, literal, triplets}
-use Rattle.notation.specs.contracts.Shape.{FlagsWithin}
 use Rattle.saturation.specs.Saturation.{taken, Saturated, Flags}
 use Rattle.saturation.specs.declared.verdict.Verdict.{Verdict}
 use Rattle.saturation.specs.declared.verdict.Verdict.the-variants.{Covered, Gap, Undecided, Refused}
-
--- a guard of n flags, as reading makes it
-pub record Proper (n : ℕ) (g : Guard) : Type 0 where
-  pub few : n ≤ flagCeiling
-  pub within : FlagsWithin n g
 
 -- the literal of flag i that is true where the flag is 1, or where it is 0
 abbrev pub flagAs : ℕ → ℕ → ℕ

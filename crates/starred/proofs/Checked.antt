@@ -13,7 +13,8 @@ use Rattle.truth.specs.Value.{value}
 use Rattle.ground.specs.Bits.{bit}
 use Rattle.steps.specs.Table.{entry, follows, pattern}
 use Rattle.saturation.specs.Saturation.{Flags}
-use Rattle.saturation.specs.Answer.{Proper, flagAs, flagsAs, Refuted, Checked}
+use Rattle.truth.specs.contracts.Written.{Proper}
+use Rattle.saturation.specs.Answer.{flagAs, flagsAs, Refuted, Checked}
 use Rattle.starred.proofs.Sketches.{Binding, signed, replaced, lead, sketched}
 use Rattle.starred.proofs.Certificates.{joined as joins, named, stepped, passed, rested, begun, refutes, unmoved, holding, run-refutes, sketch-stands}
 use Rattle.saturation.proofs.Depth.{Among}

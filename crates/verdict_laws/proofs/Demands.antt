@@ -16,7 +16,8 @@ use Rattle.notation.proofs.Accepted.{reading-accepted}
 use Rattle.truth.specs.Value.{value}
 use Rattle.gaps.specs.Gaps.{falseFrom, gapsFrom}
 use Rattle.gaps.proofs.Ascending.{false-not, false-one}
-use Rattle.saturation.specs.Answer.{Proper, Checked}
+use Rattle.truth.specs.contracts.Written.{Proper}
+use Rattle.saturation.specs.Answer.{Checked}
 use Rattle.verdict_laws.proofs.Guards.{checked-covered, checked-gap, checked-decided}
 use Rattle.guard_check.specs.Check.{depthCeiling, ReadingSays, CheckSays}
 use Rattle.saturation.specs.declared.verdict.Verdict.{Verdict}

@@ -30,7 +30,7 @@ use Rattle.list.specs.Listed.{listed, filled, Lists, Among, Ascends}
 use Rattle.list.specs.declared.Listing.{Listing}
 use Rattle.list.specs.declared.Listing.the-variants as listing
 use Rattle.list.proofs.Complete.{gaps-exact, gaps-ascend, placed-written, found-all-or-more}
-use Rattle.saturation.specs.Answer.{Proper}
+use Rattle.truth.specs.contracts.Written.{Proper}
 use Rattle.verdict_laws.proofs.Guards.{checked-full, checked-full-gap}
 use Rattle.guard_check.specs.Check.{depthCeiling, ReadingSays, CheckSays}
 use Rattle.saturation.specs.declared.verdict.Verdict.{Verdict}

@@ -1,36 +1,26 @@
 -- What deciding on triplets answers, and what fixing a flag in the trial does.
-use Prim.Native.Nat.{ℕ, _*_, _/_, _≤_, _<_}
+use Prim.Native.Nat.{ℕ, _*_, _≤_}
 use mathlib.Core.Path.{_≡_}
 use mathlib.Core.List.{List}
 use mathlib.Core.Logic.{_↔_}
-use lib.ListN.{length, take}
-use Rattle.notation.specs.Ceilings.{flagCeiling, connectiveCeiling}
-use Rattle.notation.specs.Guard.{Guard, connectives}
-use Rattle.notation.specs.Triplets.{literal, triplets, numbers}
+use lib.ListN.{length}
+use Rattle.notation.specs.Ceilings.{connectiveCeiling}
+use Rattle.notation.specs.Guard.{Guard}
+use Rattle.truth.specs.contracts.Written.{Begins}
 use Rattle.relation.specs.contracts.Classes.{Classes, kept}
-use Rattle.steps.specs.contracts.Resting.{Readable, inUse, tripletsAt}
+use Rattle.steps.specs.contracts.Resting.{inUse, tripletsAt}
 use Rattle.saturation.specs.Saturation.{taking, Saturated, SaturationOf, Flags}
-use Rattle.saturation.specs.Answer.{Proper, flagAs, Answer}
+use Rattle.saturation.specs.Answer.{flagAs, Answer}
 use Rattle.gaps.specs.declared.writing.Found.{Found}
 use Rattle.gaps.specs.declared.writing.Found.the-variants.{Done, More}
 use Rattle.saturation.specs.declared.verdict.Verdict.{Verdict}
 use Rattle.saturation.specs.declared.verdict.Verdict.the-variants.{Covered, Gap}
 
--- xs begins with c triplets over n flags, of which root is a literal
-pub record Askable (xs : List ℕ) (c n root : ℕ) : Type 0 where
-  pub readable : Readable xs c
-  pub flags : n ≤ flagCeiling
-  pub known : root / 2 < inUse c
-
 -- xs begins with the c triplets of a guard of n flags, and root is its literal
 pub record FromGuard (xs : List ℕ) (c n root : ℕ) : Type 0 where
   pub guard : Guard
-  pub proper : Proper n guard
-  pub few : c ≤ connectiveCeiling
-  pub long : 3 * c ≤ length xs
-  pub count : c ≡ connectives guard
-  pub literal : root ≡ literal 0 guard
-  pub written : take (3 * c) xs ≡ numbers (triplets 0 guard)
+  pub begins : Begins n c root guard xs
+  pub room : (c ≤ connectiveCeiling) × (3 * c ≤ length xs)
 
 -- what check answers at depth k for the first c triplets over n flags
 abbrev pub Decided : List ℕ → ℕ → ℕ → ℕ → ℕ → Verdict → Type 0

@@ -1,10 +1,11 @@
 -- `guard_check::decide::decide` meets its contract: the relation is saturated with each flag that is fixed.
 use borrow.Author.Needs.{needs}
 use Prim.Native.Nat.{ℕ, _+_, _*_, _-_, _/_, _≤_, _<_}
-use mathlib.Core.Path.{_≡_, sym, ap, _∙_}
+use mathlib.Core.Path.{_≡_, refl, sym, _∙_}
 use native.Mathlib.Omega.{arith}
-use Rattle.notation.specs.contracts.Writing.{signed}
-use Rattle.relation.proofs.LiteralLaws.{signed-half}
+use Rattle.notation.specs.Triplets.{negation}
+use Rattle.truth.proofs.Computing.{named-below}
+use Rattle.relation.proofs.LiteralLaws.{signed-odd}
 use Rattle.relation.proofs.ClassLaws.{lowers, classes-more}
 use Rattle.steps.specs.contracts.Resting.{inUse}
 use Rattle.guard_check.proofs.Trying.{Trying, trying-start, trying-next, trying-fits, decided-covered, decided-gap, decided-undecided}
@@ -12,8 +13,9 @@ use Rattle.guard_check.proofs.decide.decide.Statement.{statement}
 use Rattle.guard_check.proofs.decide.decide.Tie as tie
 
 -- the negation of a literal is of the same variable
-half-of : (l s r m : ℕ) → r ≡ signed l s → l / 2 < m → r / 2 < m
-half-of l s r m e h = omega (arith, ap (λ (x : ℕ). x / 2) e, signed-half l s)
+negation-below : (l r m : ℕ) → r ≡ negation l → l / 2 < m → r / 2 < m
+unfolding negation
+negation-below l r m e h = omega arith
 
 abbrev Inv-loop : tie.InvT-loop
 Inv-loop triplets count flags root depth of₀ state₀ done₀ of state done =
@@ -30,12 +32,13 @@ fresh-requires c κs =
 add-join : tie.Need-add-join Inv-loop μ-loop
 add-join c =
     let pre· = c .before .before .before .before .pre in
-    omega (arith, pre· .readable .few)
+    omega (arith, pre· .count)
 
 turned-requires : tie.Need-turned-requires Inv-loop μ-loop
 turned-requires c κs =
+    let args· = c .before .before .before .before .args in
     let pre· = c .before .before .before .before .pre in
-    omega (arith, pre· .readable .few, pre· .known)
+    omega (arith, pre· .count, named-below (args· .flags) (args· .count) (args· .root) (pre· .flags) (pre· .named))
 
 join-requires : tie.Need-join-requires Inv-loop μ-loop
 join-requires c κs =
@@ -43,13 +46,14 @@ join-requires c κs =
     let fresh· = c .before .before .before .fresh in
     let pre· = c .before .before .before .before .before .pre in
     let turned· = c .turned in
-    (classes-more 0 (inUse (args· .count)) (fresh· .result .of) (omega arith) (omega (arith, pre· .readable .few)) (fresh· .ensures .classes), (half-of (args· .root) _ (turned· .result) (inUse (args· .count)) (turned· .ensures) (pre· .known), omega arith))
+    (classes-more 0 (inUse (args· .count)) (fresh· .result .of) (omega arith) (omega (arith, pre· .count)) (fresh· .ensures .classes), (negation-below (args· .root) (turned· .result) (inUse (args· .count)) (turned· .ensures ∙ signed-odd (args· .root) 1 refl) (omega (arith, named-below (args· .flags) (args· .count) (args· .root) (pre· .flags) (pre· .named))), omega arith))
 
 saturate-requires : tie.Need-saturate-requires Inv-loop μ-loop
 saturate-requires c κs =
+    let args· = c .before .before .before .before .before .before .before .args in
     let pre· = c .before .before .before .before .before .before .before .pre in
     let join· = c .before .join in
-    record { readable = pre· .readable; flags = pre· .flags; classes = join· .ensures .classes }
+    record { readable = (args· .flags, args· .root, pre·); flags = pre· .flags; classes = join· .ensures .classes }
 
 is-contradictory-requires : tie.Need-is-contradictory-requires Inv-loop μ-loop
 is-contradictory-requires c κs =
@@ -66,7 +70,7 @@ returns c =
     let turned· = c .before .before .before .before .before .before .turned in
     let is-contradictory· = c .before .is-contradictory in
     let if1· = c .if1 in
-    decided-covered (args· .triplets .now) (args· .count) (args· .flags) (args· .depth) (args· .root) (saturate· .last .0) (trying-start (args· .triplets .now) (args· .count) (args· .flags) (args· .depth) (args· .root) (fresh· .result .of) (join· .last .0) (saturate· .last .0) (turned· .result) (turned· .ensures) (fresh· .ensures) (join· .ensures) (saturate· .ensures)) (sym (is-contradictory· .ensures) ∙ if1· .taken)
+    decided-covered (args· .triplets .now) (args· .count) (args· .flags) (args· .depth) (args· .root) (saturate· .last .0) (trying-start (args· .triplets .now) (args· .count) (args· .flags) (args· .depth) (args· .root) (fresh· .result .of) (join· .last .0) (saturate· .last .0) (turned· .result) (turned· .ensures ∙ signed-odd (args· .root) 1 refl) (fresh· .ensures) (join· .ensures) (saturate· .ensures)) (sym (is-contradictory· .ensures) ∙ if1· .taken)
 
 loop-holds : tie.Need-loop-holds Inv-loop μ-loop
 loop-holds c =
@@ -75,7 +79,7 @@ loop-holds c =
     let join· = c .before .before .before .before .before .join in
     let saturate· = c .before .before .before .saturate in
     let turned· = c .before .before .before .before .before .before .turned in
-    (omega arith, trying-start (args· .triplets .now) (args· .count) (args· .flags) (args· .depth) (args· .root) (fresh· .result .of) (join· .last .0) (saturate· .last .0) (turned· .result) (turned· .ensures) (fresh· .ensures) (join· .ensures) (saturate· .ensures))
+    (omega arith, trying-start (args· .triplets .now) (args· .count) (args· .flags) (args· .depth) (args· .root) (fresh· .result .of) (join· .last .0) (saturate· .last .0) (turned· .result) (turned· .ensures ∙ signed-odd (args· .root) 1 refl) (fresh· .ensures) (join· .ensures) (saturate· .ensures))
 
 add-test : tie.Need-add-test Inv-loop μ-loop
 add-test c =
@@ -84,9 +88,10 @@ add-test c =
 
 test-requires : tie.Need-test-requires Inv-loop μ-loop
 test-requires c κs =
+    let args· = c .before .before .before .before .before .before .before .before .before .before .before .before .before .before .args in
     let pre· = c .before .before .before .before .before .before .before .before .before .before .before .before .before .before .pre in
     let loop· = c .before .before .loop in
-    (record { readable = pre· .readable; flags = pre· .flags; classes = loop· .inv .1 .classes }, (loop· .inv .1 .saturated .has, (omega arith, omega arith)))
+    (record { readable = (args· .flags, args· .root, pre·); flags = pre· .flags; classes = loop· .inv .1 .classes }, (loop· .inv .1 .saturated .has, (omega arith, omega arith)))
 
 mul-state : tie.Need-mul-state Inv-loop μ-loop
 mul-state c =
@@ -137,7 +142,7 @@ returns-2 c =
     let if1· = c .before .before .before .before .before .if1 in
     let is-contradictory2· = c .before .is-contradictory2 in
     let if2· = c .if2 in
-    decided-undecided (args· .triplets .now) (args· .count) (args· .flags) (args· .depth) (args· .root) (loop· .done) (loop· .state) (saturate· .last .0) (loop· .of) (omega arith) (trying-start (args· .triplets .now) (args· .count) (args· .flags) (args· .depth) (args· .root) (fresh· .result .of) (join· .last .0) (saturate· .last .0) (turned· .result) (turned· .ensures) (fresh· .ensures) (join· .ensures) (saturate· .ensures)) (sym (is-contradictory· .ensures) ∙ if1· .left) (loop· .inv .1) (sym (is-contradictory2· .ensures) ∙ if2· .taken)
+    decided-undecided (args· .triplets .now) (args· .count) (args· .flags) (args· .depth) (args· .root) (loop· .done) (loop· .state) (saturate· .last .0) (loop· .of) (omega arith) (trying-start (args· .triplets .now) (args· .count) (args· .flags) (args· .depth) (args· .root) (fresh· .result .of) (join· .last .0) (saturate· .last .0) (turned· .result) (turned· .ensures ∙ signed-odd (args· .root) 1 refl) (fresh· .ensures) (join· .ensures) (saturate· .ensures)) (sym (is-contradictory· .ensures) ∙ if1· .left) (loop· .inv .1) (sym (is-contradictory2· .ensures) ∙ if2· .taken)
 
 returns-3 : tie.Need-returns-3 Inv-loop μ-loop
 returns-3 c =
@@ -151,7 +156,7 @@ returns-3 c =
     let if1· = c .before .before .before .before .before .if1 in
     let is-contradictory2· = c .before .is-contradictory2 in
     let if2· = c .if2 in
-    decided-gap (args· .triplets .now) (args· .count) (args· .flags) (args· .depth) (args· .root) (loop· .done) (loop· .state) (saturate· .last .0) (loop· .of) (omega arith) (trying-start (args· .triplets .now) (args· .count) (args· .flags) (args· .depth) (args· .root) (fresh· .result .of) (join· .last .0) (saturate· .last .0) (turned· .result) (turned· .ensures) (fresh· .ensures) (join· .ensures) (saturate· .ensures)) (sym (is-contradictory· .ensures) ∙ if1· .left) (loop· .inv .1) (sym (is-contradictory2· .ensures) ∙ if2· .left)
+    decided-gap (args· .triplets .now) (args· .count) (args· .flags) (args· .depth) (args· .root) (loop· .done) (loop· .state) (saturate· .last .0) (loop· .of) (omega arith) (trying-start (args· .triplets .now) (args· .count) (args· .flags) (args· .depth) (args· .root) (fresh· .result .of) (join· .last .0) (saturate· .last .0) (turned· .result) (turned· .ensures ∙ signed-odd (args· .root) 1 refl) (fresh· .ensures) (join· .ensures) (saturate· .ensures)) (sym (is-contradictory· .ensures) ∙ if1· .left) (loop· .inv .1) (sym (is-contradictory2· .ensures) ∙ if2· .left)
 
 pub decide-spec : {M : Type 1} → statement M
 decide-spec =

@@ -52,7 +52,7 @@ returns-2 c =
 add-size : tie.Need-add-size
 add-size c =
     let pre· = c .before .before .before .before .before .before .before .pre in
-    omega (arith, pre· .0 .readable .few)
+    omega (arith, pre· .0 .readable .2 .count)
 
 add-join : tie.Need-add-join
 add-join c =
