@@ -15,7 +15,8 @@ use Rattle.steps.specs.Table.{entry, follows, pattern}
 use Rattle.saturation.specs.Saturation.{Flags}
 use Rattle.truth.specs.contracts.Written.{Proper}
 use Rattle.saturation.specs.Answer.{flagAs, flagsAs, Refuted, Checked}
-use Rattle.starred.proofs.Sketches.{Binding, signed, replaced, lead, sketched}
+use Rattle.notation.specs.contracts.Writing.{signed}
+use Rattle.starred.proofs.Sketches.{Binding, replaced, lead, sketched}
 use Rattle.starred.proofs.Certificates.{joined as joins, named, stepped, passed, rested, begun, refutes, unmoved, holding, run-refutes, sketch-stands}
 use Rattle.saturation.proofs.Depth.{Among}
 use Rattle.saturation.specs.declared.verdict.Verdict.the-variants.{Covered, Gap, Undecided}
