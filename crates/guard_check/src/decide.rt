@@ -8,7 +8,6 @@ use relation::joining::join;
 use saturation::saturate::saturate;
 use saturation::verdict::Verdict;
 use steps::rest::FIRST;
-ghost use Prim.Native.Nat.{ℕ, _+_, _*_, _≤_, _<_};
 ghost use Rattle.truth.specs.contracts.Computed.{Triplets};
 ghost use Rattle.relation.specs.contracts.Classes.{kept};
 ghost use Rattle.steps.specs.contracts.Resting.{tripletsAt};

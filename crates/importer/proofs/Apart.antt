@@ -1,8 +1,8 @@
 -- A packed number can be taken apart: a payload is below 2^32, so kind and payload are read back, and no two verdicts share a number.
-use Prim.Native.Nat.{ℕ, _+_, _*_, _/_, _%_, _^_, _≤_, _<_}
-use mathlib.Core.Path.{_≡_, refl, sym, ap, _∙_}
+use Prim.Native.Nat.{ℕ, _/_, _%_, _^_, _≤_, _<_}
+use mathlib.Core.Path.{_≡_, refl, ap}
 use native.Mathlib.Omega.{arith}
-use Rattle.notation.specs.Ceilings.{textCeiling, flagCeiling}
+use Rattle.notation.specs.Ceilings.{textCeiling}
 use Rattle.notation.specs.declared.refusal.Refusal.{Refusal}
 use Rattle.saturation.specs.declared.verdict.Verdict.{Verdict}
 use Rattle.saturation.specs.declared.verdict.Verdict.the-variants.{Covered, Gap, Undecided, Refused}

@@ -1,13 +1,12 @@
 -- The truth valuation of a state: it satisfies the guard's triplets, and the root has the guard's value.
-use Prim.Native.Nat.{ℕ, zero, suc, _+_, _*_, _-_, _≤_, _<_}
-use mathlib.Core.Path.{_≡_, sym, _∙_}
+use Prim.Native.Nat.{ℕ, suc, _+_, _*_, _-_, _≤_, _<_}
+use mathlib.Core.Path.{_≡_, _∙_}
 use mathlib.Core.Bool.{Bool}
 use native.Mathlib.Omega.{arith}
 use lib.ListN.{length}
 use Rattle.notation.proofs.Shaped.{shaped, count-triplets}
 use Rattle.notation.specs.Guard.{Guard, connectives}
 use Rattle.notation.specs.Triplets.{tripletVariable, literal, triplets, numbers}
-use Rattle.notation.specs.contracts.Shape.{kindAt}
 use Rattle.truth.specs.Value.{value}
 use Rattle.ground.specs.Bits.{bit}
 use Rattle.truth.specs.contracts.Computed.{literalValue, computed, Valued}

@@ -1,7 +1,6 @@
 -- The outline's starred examples, one table: each line speaks of a text, and of what the services answer for it.
 use Prim.Native.Nat.{ℕ, _*_, _≤_}
-use Prim.Native.Char.{code}
-use Prim.Native.String.{String, [] as []ᵗ, _∷_ as _∷ᵗ_}
+use Prim.Native.String.{String}
 use mathlib.Core.Path.{_≡_}
 use mathlib.Core.List.{List, [], _∷_, _++_}
 use lib.ListN.{length, drop}

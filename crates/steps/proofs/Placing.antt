@@ -1,7 +1,6 @@
 -- The pattern of x, y and z in a consistent array, by the literals that they lead to.
 use Prim.Native.Nat.{ℕ, zero, suc, _+_, _*_, _/_, _%_, _≤_}
 use mathlib.Core.Path.{_≡_, refl, sym, _∙_, ap, ap₂}
-use mathlib.Core.Bool.{Bool, true, false}
 use mathlib.Core.List.{List, [], _∷_}
 use mathlib.Core.Logic.{⊎-elim}
 use native.Mathlib.Omega.{arith}
@@ -9,7 +8,6 @@ use lib.ListN.{getD}
 use lib.Dec.{eqb}
 use borrow.Author.Tests.{eq-eqb, ne-eqb}
 use Rattle.notation.specs.Triplets.{negation}
-use Rattle.ground.specs.Choice.{choose}
 use Rattle.relation.specs.contracts.Classes.{lead, relation}
 use Rattle.ground.proofs.Cases.{split-eq}
 use Rattle.relation.proofs.LiteralLaws.{same-variable}

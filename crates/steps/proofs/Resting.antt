@@ -1,5 +1,5 @@
 -- Passes over the triplets: between the start and every relation above it that no step enlarges, until no step does.
-use Prim.Native.Nat.{ℕ, zero, suc, _+_, _*_, _/_, _≤_, _<_}
+use Prim.Native.Nat.{ℕ, zero, suc, _+_, _*_, _≤_, _<_}
 use mathlib.Core.Path.{_≡_, refl, sym, subst}
 use mathlib.Core.Bool.{true}
 use mathlib.Core.List.{List, [], _∷_}
@@ -10,9 +10,9 @@ use Rattle.notation.specs.Triplets.{Triplet, tripletVariable, Each}
 use Rattle.notation.specs.contracts.Shape.{kindAt, yAt, zAt}
 use Rattle.truth.specs.contracts.Computed.{Triplets}
 use Rattle.truth.proofs.Computing.{named-below}
-use Rattle.relation.specs.Relation.{Rel, IsRelation, Within}
+use Rattle.relation.specs.Relation.{Rel, Within}
 use Rattle.relation.specs.contracts.Growing.{Growth}
-use Rattle.relation.specs.contracts.Classes.{entry, relation, contradictory, kept, Classes, rank}
+use Rattle.relation.specs.contracts.Classes.{entry, contradictory, kept, Classes, rank}
 use Rattle.ground.proofs.Cases.{split-eq}
 use Rattle.relation.proofs.RelationLaws.{within-trans, growth-none, growth-more, growth-least, least-below}
 use Rattle.relation.proofs.ClassLaws.{relation-all, is-relation}

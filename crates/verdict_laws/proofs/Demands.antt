@@ -2,7 +2,7 @@
 use Prim.Native.Nat.{ℕ, zero, suc, _+_, _-_, _^_, _≤_, _<_}
 use mathlib.Core.Path.{_≡_, refl, subst, _∙_}
 use mathlib.Core.Bool.{Bool, true, false}
-use mathlib.Core.List.{List, [], _∷_}
+use mathlib.Core.List.{List, _∷_}
 use mathlib.Core.Logic.{⊎-elim}
 use native.Mathlib.Omega.{arith}
 use native.Mathlib.Nat.{sub-zero}
@@ -10,7 +10,7 @@ use lib.ListN.{length}
 use Rattle.notation.specs.Ceilings.{textCeiling}
 use Rattle.notation.specs.Walk.{Flag}
 use Rattle.notation.specs.Guard.{Guard}
-use Rattle.notation.specs.Reading.{Reading, refusal, guard, reading}
+use Rattle.notation.specs.Reading.{Reading, guard, reading}
 use Rattle.ground.proofs.Cases.{split-eq, lt-or-ge}
 use Rattle.notation.proofs.Accepted.{reading-accepted}
 use Rattle.truth.specs.Value.{value}

@@ -1,5 +1,5 @@
 -- Answers within their ceilings: a packed number has room for each of them.
-use Prim.Native.Nat.{ℕ, _^_, _≤_, _<_}
+use Prim.Native.Nat.{_^_, _≤_, _<_}
 use Rattle.notation.specs.Ceilings.{textCeiling, codeCeiling, flagCeiling, connectiveCeiling}
 use Rattle.notation.specs.Triplets.{literalCeiling}
 use Rattle.notation.specs.declared.refusal.Refusal.{Refusal}

@@ -7,7 +7,7 @@ use Rattle.notation.specs.Triplets.{Triplet}
 use Rattle.notation.specs.contracts.Shape.{kindAt, yAt, zAt}
 use Rattle.notation.specs.Ceilings.{flagCeiling}
 use Rattle.truth.specs.contracts.Computed.{Triplets}
-use Rattle.relation.specs.Relation.{Rel, IsRelation, Within}
+use Rattle.relation.specs.Relation.{Within}
 use Rattle.relation.specs.Least.{Least}
 use Rattle.relation.specs.contracts.Growing.{Growth}
 use Rattle.relation.specs.contracts.Classes.{Classes, kept}

@@ -1,6 +1,6 @@
 -- `guard_check::decide::decide` meets its contract: the relation is saturated with each flag that is fixed.
 use borrow.Author.Needs.{needs}
-use Prim.Native.Nat.{ℕ, _+_, _*_, _-_, _/_, _≤_, _<_}
+use Prim.Native.Nat.{ℕ, _-_, _/_, _≤_, _<_}
 use mathlib.Core.Path.{_≡_, refl, sym, _∙_}
 use native.Mathlib.Omega.{arith}
 use Rattle.notation.specs.Triplets.{negation}

@@ -1,6 +1,6 @@
 -- `saturation::saturate` meets its contract, in a cycle of calls that ends because the depth falls: between the start and every
 -- stable relation above it, a split at a time, until a pass over the flags changes nothing.
-use Prim.Native.Nat.{ℕ, suc, _+_, _*_, _-_, _≤_, _<_}
+use Prim.Native.Nat.{ℕ, suc, _+_, _*_, _-_, _<_}
 use borrow.Author.Needs.{needs}
 use mathlib.Core.Path.{_≡_, sym, _∙_}
 use native.Mathlib.Omega.{arith}
