@@ -46,7 +46,11 @@ join-requires c κs =
     let fresh· = c .before .before .before .fresh in
     let pre· = c .before .before .before .before .before .pre in
     let turned· = c .turned in
-    (classes-more 0 (inUse (args· .count)) (fresh· .result .of) (omega arith) (omega (arith, pre· .count)) (fresh· .ensures .classes), (negation-below (args· .root) (turned· .result) (inUse (args· .count)) (turned· .ensures ∙ signed-odd (args· .root) 1 refl) (omega (arith, named-below (args· .flags) (args· .count) (args· .root) (pre· .flags) (pre· .named))), omega arith))
+    let inside : args· .root / 2 < inUse (args· .count) =
+    omega (arith, named-below (args· .flags) (args· .count) (args· .root) (pre· .flags) (pre· .named)) in
+    let below : turned· .result / 2 < inUse (args· .count) =
+    negation-below (args· .root) (turned· .result) (inUse (args· .count)) (turned· .ensures ∙ signed-odd (args· .root) 1 refl) inside in
+    (classes-more 0 (inUse (args· .count)) (fresh· .result .of) (omega arith) (omega (arith, pre· .count)) (fresh· .ensures .classes), (below, omega arith))
 
 saturate-requires : tie.Need-saturate-requires Inv-loop μ-loop
 saturate-requires c κs =
@@ -70,7 +74,12 @@ returns c =
     let turned· = c .before .before .before .before .before .before .turned in
     let is-contradictory· = c .before .is-contradictory in
     let if1· = c .if1 in
-    decided-covered (args· .triplets .now) (args· .count) (args· .flags) (args· .depth) (args· .root) (saturate· .last .0) (trying-start (args· .triplets .now) (args· .count) (args· .flags) (args· .depth) (args· .root) (fresh· .result .of) (join· .last .0) (saturate· .last .0) (turned· .result) (turned· .ensures ∙ signed-odd (args· .root) 1 refl) (fresh· .ensures) (join· .ensures) (saturate· .ensures)) (sym (is-contradictory· .ensures) ∙ if1· .taken)
+    let start =
+    trying-start (args· .triplets .now) (args· .count) (args· .flags) (args· .depth) (args· .root) (fresh· .result .of) (join· .last .0)
+    (saturate· .last .0) (turned· .result) (turned· .ensures ∙ signed-odd (args· .root) 1 refl) (fresh· .ensures) (join· .ensures)
+    (saturate· .ensures) in
+    decided-covered (args· .triplets .now) (args· .count) (args· .flags) (args· .depth) (args· .root)
+    (saturate· .last .0) start (sym (is-contradictory· .ensures) ∙ if1· .taken)
 
 loop-holds : tie.Need-loop-holds Inv-loop μ-loop
 loop-holds c =
@@ -79,7 +88,11 @@ loop-holds c =
     let join· = c .before .before .before .before .before .join in
     let saturate· = c .before .before .before .saturate in
     let turned· = c .before .before .before .before .before .before .turned in
-    (omega arith, trying-start (args· .triplets .now) (args· .count) (args· .flags) (args· .depth) (args· .root) (fresh· .result .of) (join· .last .0) (saturate· .last .0) (turned· .result) (turned· .ensures ∙ signed-odd (args· .root) 1 refl) (fresh· .ensures) (join· .ensures) (saturate· .ensures))
+    let start =
+    trying-start (args· .triplets .now) (args· .count) (args· .flags) (args· .depth) (args· .root) (fresh· .result .of) (join· .last .0)
+    (saturate· .last .0) (turned· .result) (turned· .ensures ∙ signed-odd (args· .root) 1 refl) (fresh· .ensures) (join· .ensures)
+    (saturate· .ensures) in
+    (omega arith, start)
 
 add-test : tie.Need-add-test Inv-loop μ-loop
 add-test c =
@@ -90,15 +103,21 @@ test-requires : tie.Need-test-requires Inv-loop μ-loop
 test-requires c κs =
     let args· = c .before .before .before .before .before .before .before .before .before .before .before .before .before .before .args in
     let pre· = c .before .before .before .before .before .before .before .before .before .before .before .before .before .before .pre in
-    let loop· = c .before .before .loop in
-    (record { readable = (args· .flags, args· .root, pre·); flags = pre· .flags; classes = loop· .inv .1 .classes }, (loop· .inv .1 .saturated .has, (omega arith, omega arith)))
+    let loop· = c .before .before .loop in (
+      record { readable = (args· .flags, args· .root, pre·); flags = pre· .flags; classes = loop· .inv .1 .classes },
+      (loop· .inv .1 .saturated .has, (omega arith, omega arith)),
+    )
 
 mul-state : tie.Need-mul-state Inv-loop μ-loop
 mul-state c =
     let args· = c .before .before .before .before .before .before .before .before .before .before .before .before .before .before .before .args in
     let loop· = c .before .before .before .loop in
     let pre· = c .before .before .before .before .before .before .before .before .before .before .before .before .before .before .before .pre in
-    omega (arith, trying-fits (args· .triplets .now) (args· .count) (args· .flags) (args· .depth) (args· .root) (loop· .done) (loop· .state) (loop· .of) (omega (arith, pre· .flags)) (loop· .inv .1))
+    omega (
+      arith,
+      trying-fits (args· .triplets .now) (args· .count) (args· .flags) (args· .depth) (args· .root) (loop· .done) (loop· .state) (loop· .of)
+          (omega (arith, pre· .flags)) (loop· .inv .1),
+    )
 
 add-state : tie.Need-add-state Inv-loop μ-loop
 add-state c =
@@ -106,7 +125,12 @@ add-state c =
     let args· = c .before .before .before .before .before .before .before .before .before .before .before .before .before .before .before .args in
     let loop· = c .before .before .before .loop in
     let pre· = c .before .before .before .before .before .before .before .before .before .before .before .before .before .before .before .pre in
-    omega (arith, test· .ensures .bit, trying-fits (args· .triplets .now) (args· .count) (args· .flags) (args· .depth) (args· .root) (loop· .done) (loop· .state) (loop· .of) (omega (arith, pre· .flags)) (loop· .inv .1))
+    omega (
+      arith,
+      test· .ensures .bit,
+      trying-fits (args· .triplets .now) (args· .count) (args· .flags) (args· .depth) (args· .root) (loop· .done)
+          (loop· .state) (loop· .of) (omega (arith, pre· .flags)) (loop· .inv .1),
+    )
 
 add-done : tie.Need-add-done Inv-loop μ-loop
 add-done c =
@@ -121,8 +145,11 @@ loop-again : tie.Need-loop-again Inv-loop μ-loop
 loop-again c =
     let args· = c .before .before .before .before .before .before .before .before .before .before .before .before .before .before .before .args in
     let loop· = c .before .before .before .loop in
-    let test· = c .test in
-    (omega arith, trying-next (args· .triplets .now) (args· .count) (args· .flags) (args· .depth) (args· .root) (loop· .done) (loop· .state) (test· .result) (loop· .of) (test· .last .0) (loop· .inv .1) (test· .ensures))
+    let test· = c .test in (
+      omega arith,
+      trying-next (args· .triplets .now) (args· .count) (args· .flags) (args· .depth) (args· .root) (loop· .done) (loop· .state) (test· .result)
+          (loop· .of) (test· .last .0) (loop· .inv .1) (test· .ensures),
+    )
 
 is-contradictory-requires-2 : tie.Need-is-contradictory-requires-2 Inv-loop μ-loop
 is-contradictory-requires-2 c κs =
@@ -142,7 +169,13 @@ returns-2 c =
     let if1· = c .before .before .before .before .before .if1 in
     let is-contradictory2· = c .before .is-contradictory2 in
     let if2· = c .if2 in
-    decided-undecided (args· .triplets .now) (args· .count) (args· .flags) (args· .depth) (args· .root) (loop· .done) (loop· .state) (saturate· .last .0) (loop· .of) (omega arith) (trying-start (args· .triplets .now) (args· .count) (args· .flags) (args· .depth) (args· .root) (fresh· .result .of) (join· .last .0) (saturate· .last .0) (turned· .result) (turned· .ensures ∙ signed-odd (args· .root) 1 refl) (fresh· .ensures) (join· .ensures) (saturate· .ensures)) (sym (is-contradictory· .ensures) ∙ if1· .left) (loop· .inv .1) (sym (is-contradictory2· .ensures) ∙ if2· .taken)
+    let start =
+    trying-start (args· .triplets .now) (args· .count) (args· .flags) (args· .depth) (args· .root) (fresh· .result .of) (join· .last .0)
+    (saturate· .last .0) (turned· .result) (turned· .ensures ∙ signed-odd (args· .root) 1 refl) (fresh· .ensures) (join· .ensures)
+    (saturate· .ensures) in
+    decided-undecided (args· .triplets .now) (args· .count) (args· .flags) (args· .depth) (args· .root) (loop· .done) (loop· .state)
+    (saturate· .last .0) (loop· .of) (omega arith) start (sym (is-contradictory· .ensures) ∙ if1· .left) (loop· .inv .1) (sym
+    (is-contradictory2· .ensures) ∙ if2· .taken)
 
 returns-3 : tie.Need-returns-3 Inv-loop μ-loop
 returns-3 c =
@@ -156,7 +189,13 @@ returns-3 c =
     let if1· = c .before .before .before .before .before .if1 in
     let is-contradictory2· = c .before .is-contradictory2 in
     let if2· = c .if2 in
-    decided-gap (args· .triplets .now) (args· .count) (args· .flags) (args· .depth) (args· .root) (loop· .done) (loop· .state) (saturate· .last .0) (loop· .of) (omega arith) (trying-start (args· .triplets .now) (args· .count) (args· .flags) (args· .depth) (args· .root) (fresh· .result .of) (join· .last .0) (saturate· .last .0) (turned· .result) (turned· .ensures ∙ signed-odd (args· .root) 1 refl) (fresh· .ensures) (join· .ensures) (saturate· .ensures)) (sym (is-contradictory· .ensures) ∙ if1· .left) (loop· .inv .1) (sym (is-contradictory2· .ensures) ∙ if2· .left)
+    let start =
+    trying-start (args· .triplets .now) (args· .count) (args· .flags) (args· .depth) (args· .root) (fresh· .result .of) (join· .last .0)
+    (saturate· .last .0) (turned· .result) (turned· .ensures ∙ signed-odd (args· .root) 1 refl) (fresh· .ensures) (join· .ensures)
+    (saturate· .ensures) in
+    decided-gap (args· .triplets .now) (args· .count) (args· .flags) (args· .depth) (args· .root) (loop· .done) (loop· .state)
+    (saturate· .last .0) (loop· .of) (omega arith) start (sym (is-contradictory· .ensures) ∙ if1· .left) (loop· .inv .1) (sym
+    (is-contradictory2· .ensures) ∙ if2· .left)
 
 pub decide-spec : {M : Type 1} → statement M
 decide-spec =
