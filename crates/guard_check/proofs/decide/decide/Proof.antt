@@ -1,21 +1,20 @@
 -- `guard_check::decide::decide` meets its contract: the relation is saturated with each flag that is fixed.
 use borrow.Author.Needs.{needs}
 use Prim.Native.Nat.{ℕ, _-_, _/_, _≤_, _<_}
-use mathlib.Core.Path.{_≡_, refl, sym, _∙_}
+use mathlib.Core.Path.{_≡_, refl, sym, ap, _∙_}
 use native.Mathlib.Omega.{arith}
-use Rattle.notation.specs.Triplets.{negation}
+use Rattle.notation.specs.contracts.Writing.{signed}
 use Rattle.truth.proofs.Computing.{named-below}
-use Rattle.relation.proofs.LiteralLaws.{signed-odd}
+use Rattle.relation.proofs.LiteralLaws.{signed-half, signed-odd}
 use Rattle.relation.proofs.ClassLaws.{lowers, classes-more}
 use Rattle.steps.specs.contracts.Resting.{inUse}
 use Rattle.guard_check.proofs.Trying.{Trying, trying-start, trying-next, trying-fits, decided-covered, decided-gap, decided-undecided}
 use Rattle.guard_check.proofs.decide.decide.Statement.{statement}
 use Rattle.guard_check.proofs.decide.decide.Tie as tie
 
--- the negation of a literal is of the same variable
-negation-below : (l r m : ℕ) → r ≡ negation l → l / 2 < m → r / 2 < m
-unfolding negation
-negation-below l r m e h = omega arith
+-- a literal with either sign is of the same variable
+half-of : (l s r m : ℕ) → r ≡ signed l s → l / 2 < m → r / 2 < m
+half-of l s r m e h = omega (arith, ap (λ (x : ℕ). x / 2) e, signed-half l s)
 
 abbrev Inv-loop : tie.InvT-loop
 Inv-loop triplets count flags root depth of₀ state₀ done₀ of state done =
@@ -49,7 +48,7 @@ join-requires c κs =
     let inside : args· .root / 2 < inUse (args· .count) =
     omega (arith, named-below (args· .flags) (args· .count) (args· .root) (pre· .flags) (pre· .named)) in
     let below : turned· .result / 2 < inUse (args· .count) =
-    negation-below (args· .root) (turned· .result) (inUse (args· .count)) (turned· .ensures ∙ signed-odd (args· .root) 1 refl) inside in
+    half-of (args· .root) _ (turned· .result) (inUse (args· .count)) (turned· .ensures) inside in
     (classes-more 0 (inUse (args· .count)) (fresh· .result .of) (omega arith) (omega (arith, pre· .count)) (fresh· .ensures .classes), (below, omega arith))
 
 saturate-requires : tie.Need-saturate-requires Inv-loop μ-loop
