@@ -11,7 +11,8 @@ use Rattle.notation.specs.Ceilings.{flagCeiling}
 use Rattle.notation.specs.Triplets.{tripletVariable, negation}
 use Rattle.notation.specs.contracts.Shape.{Names, Shape, kindAt, yAt, zAt}
 use Rattle.ground.specs.Bits.{bit}
-use Rattle.truth.specs.contracts.Computed.{literalValue, gate, computed}
+use Rattle.truth.specs.Connectives.{gate}
+use Rattle.truth.specs.contracts.Computed.{literalValue, computed}
 use Rattle.ground.proofs.Cases.{parity}
 use Rattle.notation.proofs.Shaped.{negation-half}
 use Rattle.truth.proofs.Literals.{literal-even, literal-odd, literal-negation, literal-agrees}

@@ -11,8 +11,8 @@ use lib.Seq.{getD-set-same, getD-set-other}
 use Rattle.notation.specs.Tokens.{same, implies}
 use Rattle.ground.specs.Choice.{choose}
 use Rattle.notation.specs.Triplets.{tripletVariable, negation}
-use Rattle.truth.specs.Value.{table}
-use Rattle.truth.specs.contracts.Computed.{literalValue, gate}
+use Rattle.truth.specs.Connectives.{table, gate}
+use Rattle.truth.specs.contracts.Computed.{literalValue}
 use Rattle.truth.proofs.Literals.{literal-even, literal-odd, literal-negation}
 use Rattle.notation.specs.Ceilings.{flagCeiling}
 use Rattle.notation.proofs.Shaped.{negation-half}

@@ -2,7 +2,6 @@
 use Prim.Native.Nat.{ℕ, _*_, _≤_, _<_}
 use mathlib.Core.Path.{_≡_, refl, sym, subst, _∙_}
 use mathlib.Core.List.{List}
-use native.Mathlib.Omega.{arith}
 use lib.ListN.{length}
 use borrow.Author.Tests.{le-leb, lt-leb}
 use Rattle.notation.specs.Ceilings.{textCeiling, connectiveCeiling}
@@ -12,13 +11,12 @@ use Rattle.notation.specs.Reading.{Reading, refusal, guard, reading}
 use Rattle.notation.specs.declared.refusal.Refusal.{Refusal}
 use Rattle.reading.specs.declared.parse.Guard as counted
 use Rattle.reading.proofs.Serving.{Found}
-use Rattle.notation.proofs.Accepted.{reading-within}
-use Rattle.guard_check.specs.Check.{depthCeiling, asked, GuardSays, ReadingSays, CheckSays}
-use Rattle.guard_check.specs.contracts.Verdicts.{verdictOf}
-use Rattle.guard_check.specs.contracts.Decision.{FromGuard, Decided}
-use Rattle.guard_check.specs.declared.decide.Decision.{Decision}
-use Rattle.guard_check.specs.declared.verdicts.Verdict.{Verdict}
-use Rattle.guard_check.specs.declared.verdicts.Verdict.the-variants.{Refused}
+use Rattle.read_truth.proofs.Begun.{read-flags, read-begins, read-triplets}
+use Rattle.guard_check.specs.Check.{depthCeiling, asked, ReadingSays, CheckSays}
+use Rattle.guard_check.specs.contracts.Deciding.{FromGuard, Decided}
+use Rattle.saturation.specs.Answer.{Checked}
+use Rattle.saturation.specs.declared.verdict.Verdict.{Verdict}
+use Rattle.saturation.specs.declared.verdict.Verdict.the-variants.{Refused}
 use Rattle.guard_check.proofs.Tables.{guard-says}
 
 -- what is said of what was asked is what check says
@@ -46,21 +44,10 @@ pub too-deep : (text : List ℕ) (depth : ℕ) → length text ≤ textCeiling �
 too-deep text depth h d = says text depth (refusal 2 0) _ (asks-deep text depth h d) refl
 
 -- a guard in the tables is one that can be decided
-abbrev pub from-tables : (text codes out : List ℕ) (x : counted.Guard) → Found text (reading text) x codes out → 3 * connectiveCeiling ≤ length out
+abbrev pub from-tables : (text codes out : List ℕ) (x : counted.Guard) → Found text (reading text) x codes out → length out ≡ 3 * connectiveCeiling
     → FromGuard out (x .count) (x .flags) (x .root)
 from-tables text codes out x f l =
-    record {
-      guard = f .tree;
-      proper = record {
-        few = rw (f .counts) (f .read .few);
-        within = rw (f .counts) (reading-within text (f .tree) (f .flags) (f .says));
-      };
-      few = rw (f .counts) (f .read .short);
-      long = rw (f .counts) (omega (arith, f .read .short));
-      count = rw (f .counts);
-      literal = rw (f .counts);
-      written = rw (f .counts) (f .read .written);
-    }
+    record { guard = f .tree; begins = read-begins text x codes out f; room = read-triplets text x codes out f l .count }
 
 module _ (text : List ℕ) (depth : ℕ) (h : length text ≤ textCeiling) (d : depth ≤ depthCeiling) where
   -- a refusal of the text is passed on
@@ -68,15 +55,13 @@ module _ (text : List ℕ) (depth : ℕ) (h : length text ≤ textCeiling) (d : 
   refused-too f e = says text depth (refusal (f .number) (f .place)) (Refused f) (asks-text text depth h d ∙ e) refl
 
   -- what is said of its guard is said of the text
-  pub guard-too : (g : Guard) (u : List Flag) → reading text ≡ guard g u → (r : Verdict) → GuardSays (length u) g depth r → CheckSays text depth r
+  pub guard-too : (g : Guard) (u : List Flag) → reading text ≡ guard g u → (r : Verdict) → Checked (length u) g depth r → CheckSays text depth r
   guard-too g u e r s = says text depth (guard g u) r (asks-text text depth h d ∙ e) s
 
   -- what is decided of the tables is the verdict on the text
-  pub tables-say : (codes out : List ℕ) (x : counted.Guard) (f : Found text (reading text) x codes out) (l : 3 * connectiveCeiling ≤ length out)
-      (r : Decision) → Decided out (x .count) (x .flags) (x .root) depth r → (v : Verdict) → v ≡ verdictOf r → CheckSays text depth v
-  tables-say codes out x f l r a v e =
-      let n : x .flags ≡ length (f .flags) = rw (f .counts) in
-      let s : GuardSays (x .flags) (f .tree) depth (verdictOf r) =
+  pub tables-say : (codes out : List ℕ) (x : counted.Guard) (f : Found text (reading text) x codes out) (l : length out ≡ 3 * connectiveCeiling)
+      (r : Verdict) → Decided out (x .count) (x .flags) (x .root) depth r → CheckSays text depth r
+  tables-say codes out x f l r a =
+      let s : Checked (x .flags) (f .tree) depth r =
       guard-says out (x .count) (x .flags) (x .root) (from-tables text codes out x f l) depth r a in
-      subst (λ (w : Verdict). CheckSays text depth w) (sym e)
-      (guard-too (f .tree) (f .flags) (f .says) (verdictOf r) (subst (λ (m : ℕ). GuardSays m (f .tree) depth (verdictOf r)) n s))
+      guard-too (f .tree) (f .flags) (f .says) r (rw (read-flags text x codes out f) at s)

@@ -1,37 +1,35 @@
 -- At a depth not below the number of flags the first gap is the answer.
-use Prim.Native.Nat.{ℕ, zero, suc, _+_, _*_, _-_, _/_, _^_, _≤_, _<_}
+use Prim.Native.Nat.{ℕ, zero, suc, _+_, _-_, _^_, _≤_, _<_}
 use mathlib.Core.Path.{_≡_, refl, sym, _∙_}
 use mathlib.Core.Bool.{Bool, true, false}
 use mathlib.Core.List.{List, [], _∷_}
 use mathlib.Core.Logic.{⊎-elim}
 use native.Mathlib.Omega.{arith}
-use lib.ListN.{length, take}
+use lib.ListN.{length}
 use lib.Dec.{leb}
 use borrow.Author.Tests.{lt-leb}
-use Rattle.notation.specs.Guard.{Guard, connectives}
-use Rattle.notation.specs.Triplets.{tripletVariable, literal, triplets, numbers}
+use Rattle.notation.specs.Guard.{Guard}
+use Rattle.notation.specs.Triplets.{triplets}
 use Rattle.ground.proofs.Cases.{either, split-eq}
 use Rattle.truth.specs.Value.{value}
 use Rattle.truth.specs.contracts.Computed.{rootValue, Triplets}
-use Rattle.truth.proofs.Written.{Begins, written-triplets, written-value}
+use Rattle.truth.specs.contracts.Written.{Proper, Begins}
+use Rattle.truth.proofs.Written.{written-triplets, written-value}
 use Rattle.notation.proofs.Shaped.{count-triplets}
-use Rattle.steps.specs.contracts.Resting.{inUse, tripletsAt}
-use Rattle.steps.proofs.Resting.{readable-from}
+use Rattle.steps.specs.contracts.Resting.{tripletsAt}
 use Rattle.steps.proofs.Listing.{triplets-read}
 use Rattle.saturation.specs.Saturation.{Flags}
-use Rattle.saturation.specs.Answer.{Answer}
+use Rattle.saturation.specs.Answer.{Checked}
 use Rattle.saturation.proofs.Confirmed.{full-covered, full-gap}
 use Rattle.gaps.specs.Gaps.{falseFrom}
 use Rattle.gaps.specs.Writing.{found}
 use Rattle.gaps.specs.contracts.Rows.{Writes}
 use Rattle.gaps.proofs.Ascending.{false-not, false-one}
-use Rattle.guard_check.specs.Check.{GuardSays}
-use Rattle.guard_check.specs.contracts.Verdicts.{verdictOf}
-use Rattle.guard_check.specs.contracts.Decision.{FromGuard, Askable, Decided, FullyDecided, firstGap, meant}
+use Rattle.guard_check.specs.contracts.Deciding.{FromGuard, Decided, FullyDecided, firstGap}
 use Rattle.gaps.specs.declared.writing.Found.{Found}
 use Rattle.gaps.specs.declared.writing.Found.the-variants.{Done, More}
-use Rattle.guard_check.specs.declared.decide.Decision.{Decision}
-use Rattle.guard_check.specs.declared.decide.Decision.the-variants.{Covered, Gap, Undecided}
+use Rattle.saturation.specs.declared.verdict.Verdict.{Verdict}
+use Rattle.saturation.specs.declared.verdict.Verdict.the-variants.{Covered, Gap}
 
 -- ---- what a list of states says
 pub first-of : (v : ℕ → Bool) (lo k s : ℕ) (l : List ℕ) → falseFrom v lo k ≡ s ∷ l
@@ -77,77 +75,53 @@ unfolding found
 found-one s l = let h : leb (length (s ∷ l)) 0 ≡ false = lt-leb (length (s ∷ l)) 0 (omega arith) in rw h
 
 -- ---- what the numbers of a guard's triplets are
-module _ (xs : List ℕ) (c n root : ℕ) (g : Guard) (count : c ≡ connectives g) (literal-of : root ≡ literal 0 g)
-    (written : take (3 * c) xs ≡ numbers (triplets 0 g)) where
+module _ (xs : List ℕ) (c n root : ℕ) (g : Guard) (begins : Begins n c root g xs) where
   pub listed : tripletsAt xs c ≡ triplets 0 g
   listed =
-      let e : length (triplets 0 g) ≡ c = count-triplets 0 g ∙ sym (count) in
-      rw e at (triplets-read xs (triplets 0 g) (rw e (written)))
+      let e : length (triplets 0 g) ≡ c = count-triplets 0 g ∙ sym (begins .count) in
+      rw e at (triplets-read xs (triplets 0 g) (rw e (begins .written)))
 
-  pub at-guard : (k : ℕ) (r : Decision) → Answer (Flags n) (triplets 0 g) (literal 0 g) k n (meant r) → Decided xs c n root k r
-  at-guard k r a = rw (listed, literal-of) a
+  pub at-guard : (k : ℕ) (r : Verdict) → Checked n g k r → Decided xs c n root k r
+  at-guard k r a = rw (listed, begins .literal) a
 
-  pub of-guard : (k : ℕ) (r : Decision) → Decided xs c n root k r → Answer (Flags n) (triplets 0 g) (literal 0 g) k n (meant r)
-  of-guard k r a = rw (listed, literal-of) at a
+  pub of-guard : (k : ℕ) (r : Verdict) → Decided xs c n root k r → Checked n g k r
+  of-guard k r a = rw (listed, begins .literal) at a
 
 module _ (xs : List ℕ) (c n root : ℕ) (from : FromGuard xs c n root) where
   abbrev g : Guard
   g = from .guard
 
-  begins : Begins n c root g xs
-  begins =
-      record {
-        few = from .proper .few;
-        within = from .proper .within;
-        count = from .count;
-        literal = from .literal;
-        written = from .written;
-      }
+  proper : Proper n g
+  proper = record { few = from .begins .few; within = from .begins .within }
 
   pub searchable : Triplets n xs c root
-  searchable = written-triplets n c root g xs begins (from .few) (from .long)
-
-  root-known : root / 2 < inUse c
-  root-known =
-      ⊎-elim (λ (p : root / 2 ≤ n). omega (arith, from .proper .few))
-      (λ (p : (tripletVariable 0 < root / 2) × (root / 2 ≤ tripletVariable c)). omega arith)
-      (searchable .named)
-
-  pub askable : Askable xs c n root
-  askable =
-      record {
-        readable = readable-from n c xs (from .proper .few) (from .few) (from .long) (searchable .shape);
-        flags = from .proper .few;
-        known = root-known;
-      }
+  searchable = written-triplets n c root g xs (from .begins) (from .room .0) (from .room .1)
 
   its-value : (s : ℕ) → rootValue n xs c root s ≡ value n s g
-  its-value = written-value n c root g xs begins
+  its-value = written-value n c root g xs (from .begins)
 
-  its-answer : (k : ℕ) (r : Decision) → Answer (Flags n) (triplets 0 g) (literal 0 g) k n (meant r) → Decided xs c n root k r
-  its-answer = at-guard xs c n root g (from .count) (from .literal) (from .written)
+  its-answer : (k : ℕ) (r : Verdict) → Checked n g k r → Decided xs c n root k r
+  its-answer = at-guard xs c n root g (from .begins)
 
   -- what is decided of the triplets is the verdict on the guard
-  pub guard-says : (k : ℕ) (r : Decision) → Decided xs c n root k r → GuardSays n g k (verdictOf r)
-  guard-says k Covered a = of-guard xs c n root g (from .count) (from .literal) (from .written) k Covered a
-  guard-says k (Gap s) a = of-guard xs c n root g (from .count) (from .literal) (from .written) k (Gap s) a
-  guard-says k Undecided a = of-guard xs c n root g (from .count) (from .literal) (from .written) k Undecided a
+  pub guard-says : (k : ℕ) (r : Verdict) → Decided xs c n root k r → Checked n g k r
+  guard-says = of-guard xs c n root g (from .begins)
 
   -- the list of all gaps, with nothing written of it, says the answer
   fully : (l : List ℕ) → falseFrom (rootValue n xs c root) 0 (2 ^ n - 0) ≡ l → FullyDecided xs c n root (firstGap (found l 0))
   fully [] e k h =
       rw (found-none)
       (its-answer k Covered
-      (full-covered (Flags n) n g (from .proper) (λ f d. d) k h
+      (full-covered (Flags n) n g proper (λ f d. d) k h
       (λ s b. sym (its-value s) ∙ none-of (rootValue n xs c root) 0 (2 ^ n - 0) e s (omega arith) (omega arith))))
   fully (s ∷ l) e k h =
       let p : (0 ≤ s) × (s < 0 + (2 ^ n - 0)) × (rootValue n xs c root s ≡ false) × ((t : ℕ) → 0 ≤ t → t < s → rootValue n xs c root t ≡ true) =
       first-of (rootValue n xs c root) 0 (2 ^ n - 0) s l e in
       rw (found-one s l)
       (its-answer k (Gap s)
-      (full-gap (Flags n) n g (from .proper) (λ f d. d) k h s (omega (arith, p .1)) (sym (its-value s) ∙ p .2)
+      (full-gap (Flags n) n g proper (λ f d. d) k h s (omega (arith, p .1)) (sym (its-value s) ∙ p .2)
       (λ t b. sym (its-value t) ∙ p .3 t (omega arith) b)))
 
-  pub fully-found : {out after : List ℕ} (r : Found) (d : Decision) → Writes out 0 (falseFrom (rootValue n xs c root) 0 (2 ^ n - 0)) r after
+  pub fully-found : {out after : List ℕ} (r : Found) (d : Verdict) → Writes out 0 (falseFrom (rootValue n xs c root) 0 (2 ^ n - 0)) r after
       → length out ≡ 0 → d ≡ firstGap r → FullyDecided xs c n root d
   fully-found r d w e q = rw (q, w .answers, e) (fully (falseFrom (rootValue n xs c root) 0 (2 ^ n - 0)) refl)

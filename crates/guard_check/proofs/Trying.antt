@@ -10,12 +10,10 @@ use lib.Pow.{pow-mono}
 use borrow.Author.Tests.{eqb-true}
 use Rattle.notation.specs.Ceilings.{flagCeiling}
 use Rattle.notation.specs.Triplets.{Triplet, negation}
-use Rattle.notation.specs.contracts.Writing.{signed}
 use Rattle.relation.specs.Relation.{Rel, IsRelation, Within}
 use Rattle.relation.specs.contracts.Classes.{Classes, entry, kept}
 use Rattle.relation.specs.contracts.Keeping.{Fresh, Joined}
 use Rattle.ground.proofs.Cases.{never}
-use Rattle.relation.proofs.LiteralLaws.{signed-odd}
 use Rattle.relation.proofs.RelationLaws.{within-refl}
 use Rattle.relation.proofs.ClassLaws.{is-relation}
 use Rattle.steps.specs.contracts.Resting.{inUse, tripletsAt}
@@ -28,8 +26,8 @@ use Rattle.saturation.proofs.Fixed.{negation-even}
 use Rattle.saturation.proofs.Splits.{refuted-held, trial-next}
 use Rattle.saturation.proofs.Saturating.{saturated-joined}
 use Rattle.saturation.proofs.Confirmed.{trial-below}
-use Rattle.guard_check.specs.contracts.Decision.{Tested, Decided}
-use Rattle.guard_check.specs.declared.decide.Decision.the-variants.{Covered, Gap, Undecided}
+use Rattle.guard_check.specs.contracts.Deciding.{Tested, Decided}
+use Rattle.saturation.specs.declared.verdict.Verdict.the-variants.{Covered, Gap, Undecided}
 
 -- ---- a flag and its negation
 turned-over : (A : Rel) (f : ℕ) → IsRelation A → A (2 * f) 1 ≡ true → A (2 * f + 1) 0 ≡ true
@@ -121,12 +119,11 @@ module _ (numbers : List ℕ) (c n k : ℕ) where
     fresh-below : (fs : List ℕ) → Fresh fs → (A : Rel) → IsRelation A → Within (kept fs) A
     fresh-below fs h A r l m e = rw (eqb-true l m (sym (h .only l m) ∙ e)) (r .reflexive m)
 
-    pub trying-start : (fs js xs : List ℕ) (l : ℕ) → l ≡ signed root 1 → Fresh fs → Joined (inUse c) fs l 0 js → SaturatedTo numbers c n k js xs → Trying 0 0 xs
+    pub trying-start : (fs js xs : List ℕ) (l : ℕ) → l ≡ negation root → Fresh fs → Joined (inUse c) fs l 0 js → SaturatedTo numbers c n k js xs → Trying 0 0 xs
     unfolding flagsAs
     trying-start fs js xs l e h j s =
-        let same : l ≡ negation root = e ∙ signed-odd root 1 refl in
         let all : SaturationOf (Flags n) ts k (taking (kept fs) (negation root)) (kept xs) =
-        rw same at (saturated-joined (Flags n) ts k l (kept fs) (kept js) (kept xs) (j .least) (s .least)) in
+        rw e at (saturated-joined (Flags n) ts k l (kept fs) (kept js) (kept xs) (j .least) (s .least)) in
         record {
           classes = s .classes;
           saturated = record {

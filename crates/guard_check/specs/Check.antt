@@ -6,11 +6,10 @@ use lib.ListN.{length}
 use lib.Dec.{leb}
 use Rattle.notation.specs.Ceilings.{textCeiling}
 use Rattle.ground.specs.Choice.{choose}
-use Rattle.notation.specs.Guard.{Guard}
 use Rattle.notation.specs.Reading.{Reading, refusal, guard, reading}
-use Rattle.saturation.specs.Answer.{covered, gap, undecided, Checked}
-use Rattle.guard_check.specs.declared.verdicts.Verdict.{Verdict}
-use Rattle.guard_check.specs.declared.verdicts.Verdict.the-variants.{Covered, Gap, Undecided, Refused}
+use Rattle.saturation.specs.Answer.{Checked}
+use Rattle.saturation.specs.declared.verdict.Verdict.{Verdict}
+use Rattle.saturation.specs.declared.verdict.Verdict.the-variants.{Refused}
 
 -- the depth of a check
 abbrev pub depthCeiling : ℕ
@@ -23,17 +22,10 @@ asked text depth =
     (choose (leb depth depthCeiling) (reading text) (refusal 2 0))
     (refusal 1 textCeiling)
 
--- the verdict on a guard of n flags
-abbrev pub GuardSays : ℕ → Guard → ℕ → Verdict → Type 0
-GuardSays n g depth Covered = Checked n g depth covered
-GuardSays n g depth (Gap s) = Checked n g depth (gap s)
-GuardSays n g depth Undecided = Checked n g depth undecided
-GuardSays n g depth (Refused f) = ⊥
-
 -- a refusal is passed on, and a guard is checked
 abbrev pub ReadingSays : Reading → ℕ → Verdict → Type 0
 ReadingSays (refusal k p) depth r = r ≡ Refused (record { number = k; place = p })
-ReadingSays (guard g u) depth r = GuardSays (length u) g depth r
+ReadingSays (guard g u) depth r = Checked (length u) g depth r
 
 -- what check answers
 abbrev pub CheckSays : List ℕ → ℕ → Verdict → Type 0

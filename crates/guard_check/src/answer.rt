@@ -1,33 +1,33 @@
 // The answer for the triplets of a guard, by the shorter of two ways.
-use crate::decide::Decision;
 use crate::decide::decide;
 use gaps::writing::Found;
+use saturation::verdict::Verdict;
 use search::search;
 ghost use mathlib.Core.Path.{_≡_};
-ghost use Rattle.guard_check.specs.contracts.Decision.{FromGuard, Decided, FullyDecided, firstGap};
+ghost use Rattle.guard_check.specs.contracts.Deciding.{FromGuard, Decided, FullyDecided, firstGap};
 
 // No gap is covered.
-fn decision_of(found: Found) -> Decision
+fn verdict_of(found: Found) -> Verdict
     ensures { λ r. ⌜ r ≡ firstGap found ⌝ }
 {
     match found {
-        Found::Done(_) => Decision::Covered,
-        Found::More { written: _, next } => Decision::Gap(next),
+        Found::Done(_) => Verdict::Covered,
+        Found::More { written: _, next } => Verdict::Gap(next),
     }
 }
 
 // The first gap of the list. Nothing is to be written, so that the search ends where it finds one.
-fn by_tables(triplets: &[u16], count: usize, flags: usize, root: u16) -> Decision
+fn by_tables(triplets: &[u16], count: usize, flags: usize, root: u16) -> Verdict
     requires { ⌜ FromGuard (now triplets) count flags root ⌝ }
     ensures { λ r. ⌜ FullyDecided (now (triplets .entry)) count flags root r ⌝ }
 {
     let mut none = [0u32; 1];
     let found = search(triplets, count, root, flags, 0, &mut none[0..0]);
-    decision_of(found)
+    verdict_of(found)
 }
 
 // At a depth not below the number of flags the first gap is the answer, and no such depth costs more than the list does.
-pub fn answer(triplets: &[u16], count: usize, flags: usize, root: u16, depth: u64) -> Decision
+pub fn answer(triplets: &[u16], count: usize, flags: usize, root: u16, depth: u64) -> Verdict
     requires { ⌜ FromGuard (now triplets) count flags root ⌝ }
     ensures { λ r. ⌜ Decided (now (triplets .entry)) count flags root depth r ⌝ }
 {

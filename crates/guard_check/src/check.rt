@@ -1,13 +1,12 @@
 // The service check: the verdict on a text at a depth.
 use crate::answer::answer;
-use crate::verdicts::Verdict;
-use crate::verdicts::verdict_of;
 use notation::ceilings::CODES_ROOM;
 use notation::ceilings::TEXT;
 use notation::ceilings::TRIPLETS_ROOM;
 use notation::refusal::Refusal;
 use reading::parse::Parsed;
 use reading::parse::parse;
+use saturation::verdict::Verdict;
 ghost use Rattle.guard_check.specs.Check.{CheckSays};
 
 // The ceiling of the depth.
@@ -34,9 +33,6 @@ pub fn check(text: &[u8], depth: u64) -> Verdict
     let parsed = parse(text, &mut codes, &mut triplets);
     match parsed {
         Parsed::Refused(refusal) => Verdict::Refused(refusal),
-        Parsed::Guard(guard) => {
-            let decision = answer(&triplets, guard.count, guard.flags, guard.root, depth);
-            verdict_of(decision)
-        }
+        Parsed::Guard(guard) => answer(&triplets, guard.count, guard.flags, guard.root, depth),
     }
 }

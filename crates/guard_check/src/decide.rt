@@ -6,20 +6,14 @@ use relation::classes::is_contradictory;
 use relation::classes::turned;
 use relation::joining::join;
 use saturation::saturate::saturate;
+use saturation::verdict::Verdict;
 use steps::rest::FIRST;
-ghost use Prim.Native.Nat.{ℕ, _+_, _*_, _≤_, _<_};
+ghost use Rattle.truth.specs.contracts.Computed.{Triplets};
 ghost use Rattle.relation.specs.contracts.Classes.{kept};
 ghost use Rattle.steps.specs.contracts.Resting.{tripletsAt};
 ghost use Rattle.saturation.specs.Saturation.{Stable, Flags};
 ghost use Rattle.saturation.specs.contracts.Saturating.{Ready};
-ghost use Rattle.guard_check.specs.contracts.Decision.{Askable, Tested, Decided};
-
-// The state of a gap has the first flag as its highest bit.
-pub enum Decision {
-    Covered,
-    Gap(u64),
-    Undecided,
-}
+ghost use Rattle.guard_check.specs.contracts.Deciding.{Tested, Decided};
 
 // Fixes a flag: to 0, or to 1 where 0 is contradictory, and saturates. Answers the value. A flag that is tied has it already.
 fn test(
@@ -56,8 +50,8 @@ fn test(
 }
 
 // Starts from "root = false", saturated; then tries the flags in order.
-pub fn decide(triplets: &[u16], count: usize, flags: usize, root: u16, depth: u64) -> Decision
-    requires { ⌜ Askable (now triplets) count flags root ⌝ }
+pub fn decide(triplets: &[u16], count: usize, flags: usize, root: u16, depth: u64) -> Verdict
+    requires { ⌜ Triplets flags (now triplets) count root ⌝ }
     ensures { λ r. ⌜ Decided (now (triplets .entry)) count flags root depth r ⌝ }
 {
     let start = fresh();
@@ -65,7 +59,7 @@ pub fn decide(triplets: &[u16], count: usize, flags: usize, root: u16, depth: u6
     join(&mut of, FIRST + count, turned(root, 1), 0);
     saturate(&mut of, triplets, count, flags, depth);
     if is_contradictory(&of) {
-        return Decision::Covered;
+        return Verdict::Covered;
     }
     let mut state: u64 = 0;
     let mut done: usize = 0;
@@ -75,7 +69,7 @@ pub fn decide(triplets: &[u16], count: usize, flags: usize, root: u16, depth: u6
         done += 1;
     }
     if is_contradictory(&of) {
-        return Decision::Undecided;
+        return Verdict::Undecided;
     }
-    Decision::Gap(state)
+    Verdict::Gap(state)
 }

@@ -2,4 +2,3 @@
 pub mod answer;
 pub mod check;
 pub mod decide;
-pub mod verdicts;

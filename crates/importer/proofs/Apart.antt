@@ -1,11 +1,11 @@
 -- A packed number can be taken apart: a payload is below 2^32, so kind and payload are read back, and no two verdicts share a number.
-use Prim.Native.Nat.{ℕ, _+_, _*_, _/_, _%_, _^_, _≤_, _<_}
-use mathlib.Core.Path.{_≡_, refl, sym, ap, _∙_}
+use Prim.Native.Nat.{ℕ, _/_, _%_, _^_, _≤_, _<_}
+use mathlib.Core.Path.{_≡_, refl, ap}
 use native.Mathlib.Omega.{arith}
-use Rattle.notation.specs.Ceilings.{textCeiling, flagCeiling}
+use Rattle.notation.specs.Ceilings.{textCeiling}
 use Rattle.notation.specs.declared.refusal.Refusal.{Refusal}
-use Rattle.guard_check.specs.declared.verdicts.Verdict.{Verdict}
-use Rattle.guard_check.specs.declared.verdicts.Verdict.the-variants.{Covered, Gap, Undecided, Refused}
+use Rattle.saturation.specs.declared.verdict.Verdict.{Verdict}
+use Rattle.saturation.specs.declared.verdict.Verdict.the-variants.{Covered, Gap, Undecided, Refused}
 use Rattle.importer.specs.Packed.{packed, packedRefusal, packedVerdict}
 use Rattle.reading.specs.contracts.Parsing.{lastRefusal}
 use Rattle.importer.specs.contracts.Fits.{RefusalFits, VerdictFits}

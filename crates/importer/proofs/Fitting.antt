@@ -38,8 +38,8 @@ use Rattle.list.specs.declared.Listing.{Listing}
 use Rattle.list.specs.declared.Listing.the-variants as listing
 use Rattle.gaps.proofs.Ascending.{false-not, false-one}
 use Rattle.guard_check.specs.Check.{depthCeiling, asked, ReadingSays, CheckSays}
-use Rattle.guard_check.specs.declared.verdicts.Verdict.{Verdict}
-use Rattle.guard_check.specs.declared.verdicts.Verdict.the-variants.{Covered, Gap, Undecided, Refused}
+use Rattle.saturation.specs.declared.verdict.Verdict.{Verdict}
+use Rattle.saturation.specs.declared.verdict.Verdict.the-variants.{Covered, Gap, Undecided, Refused}
 use Rattle.importer.specs.contracts.Fits.{RefusalFits, VerdictFits, EvaluationFits, FoundFits, ListingFits, ParsedFits, NamedFits}
 use Rattle.reading.proofs.Places.{choose-has, FlagsFit, OutcomeFits, text-fits}
 

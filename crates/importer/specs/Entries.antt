@@ -8,7 +8,7 @@ use Rattle.reading.specs.Service.{readAnswer, roomAfter, nameAnswer}
 use Rattle.evaluate.specs.Evaluated.{evaluated}
 use Rattle.list.specs.Listed.{listed, filled}
 use Rattle.guard_check.specs.Check.{CheckSays}
-use Rattle.guard_check.specs.declared.verdicts.Verdict.{Verdict}
+use Rattle.saturation.specs.declared.verdict.Verdict.{Verdict}
 use Rattle.importer.specs.Packed.{packedVerdict, packedEvaluation, packedListing, packedParsed, packedNamed}
 
 -- check answers the number of the verdict on the text at the depth

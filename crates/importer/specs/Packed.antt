@@ -12,8 +12,8 @@ use Rattle.gaps.specs.declared.writing.Found.{Found}
 use Rattle.gaps.specs.declared.writing.Found.the-variants as found
 use Rattle.list.specs.declared.Listing.{Listing}
 use Rattle.list.specs.declared.Listing.the-variants as listing
-use Rattle.guard_check.specs.declared.verdicts.Verdict.{Verdict}
-use Rattle.guard_check.specs.declared.verdicts.Verdict.the-variants as verdict
+use Rattle.saturation.specs.declared.verdict.Verdict.{Verdict}
+use Rattle.saturation.specs.declared.verdict.Verdict.the-variants as verdict
 
 -- a kind with its payload
 abbrev pub packed : ℕ → ℕ → ℕ

@@ -1,11 +1,11 @@
 // Packs each answer into one number: kind x 2^32 + payload.
 use evaluate::Evaluation;
 use gaps::writing::Found;
-use guard_check::verdicts::Verdict;
 use list::Listing;
 use notation::refusal::Refusal;
 use reading::name::Named;
 use reading::parse::Parsed;
+use saturation::verdict::Verdict;
 ghost use mathlib.Core.Path.{_≡_};
 ghost use Prim.Native.Nat.{_^_, _≤_, _<_};
 ghost use Rattle.importer.specs.Packed.{packed, packedRefusal, packedVerdict, packedEvaluation, packedFound, packedListing, packedParsed, packedNamed};

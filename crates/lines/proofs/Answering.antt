@@ -11,8 +11,8 @@ use Rattle.notation.specs.Ceilings.{flagCeiling}
 use Rattle.notation.specs.declared.refusal.Refusal.{Refusal}
 use Rattle.guard_check.specs.Check.{CheckSays}
 use Rattle.ground.specs.Bytes.{bytes}
-use Rattle.guard_check.specs.declared.verdicts.Verdict.{Verdict}
-use Rattle.guard_check.specs.declared.verdicts.Verdict.the-variants.{Covered, Gap, Undecided, Refused}
+use Rattle.saturation.specs.declared.verdict.Verdict.{Verdict}
+use Rattle.saturation.specs.declared.verdict.Verdict.the-variants.{Covered, Gap, Undecided, Refused}
 use Rattle.lines.specs.Lines.{lineFeed}
 use Rattle.lines.specs.Question.{question, guardIn, QuestionSays}
 use Rattle.lines.specs.Printed.{decimal, valued, flagsOf, answered, printed}

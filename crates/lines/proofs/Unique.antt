@@ -7,7 +7,7 @@ use mathlib.Core.List.{List, [], _∷_, _++_}
 use lib.ListN.{length, drop}
 use lib.Dec.{leb}
 use Rattle.ground.proofs.Cases.{either}
-use Rattle.guard_check.specs.declared.verdicts.Verdict.{Verdict}
+use Rattle.saturation.specs.declared.verdict.Verdict.{Verdict}
 use Rattle.guard_check.proofs.Unique.{check-unique}
 use Rattle.lines.specs.Question.{question, guardOf, QuestionSays}
 use Rattle.lines.specs.Printed.{printed}

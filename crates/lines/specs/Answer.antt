@@ -3,7 +3,7 @@ use Prim.Native.Nat.{ℕ, _≤_}
 use mathlib.Core.Path.{_≡_}
 use mathlib.Core.List.{List, _++_}
 use lib.ListN.{length, drop}
-use Rattle.guard_check.specs.declared.verdicts.Verdict.{Verdict}
+use Rattle.saturation.specs.declared.verdict.Verdict.{Verdict}
 use Rattle.lines.specs.Question.{guardOf, LineSays}
 use Rattle.lines.specs.Printed.{printed}
 

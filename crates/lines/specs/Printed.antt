@@ -9,8 +9,8 @@ use Rattle.notation.specs.Walk.{Flag}
 use Rattle.notation.specs.Reading.{Reading, refusal, guard, reading}
 use Rattle.ground.specs.Bits.{bit}
 use Rattle.ground.specs.Bytes.{bytes}
-use Rattle.guard_check.specs.declared.verdicts.Verdict.{Verdict}
-use Rattle.guard_check.specs.declared.verdicts.Verdict.the-variants.{Covered, Gap, Undecided, Refused}
+use Rattle.saturation.specs.declared.verdict.Verdict.{Verdict}
+use Rattle.saturation.specs.declared.verdict.Verdict.the-variants.{Covered, Gap, Undecided, Refused}
 use Rattle.lines.specs.Lines.{lineFeed}
 
 -- the byte of a digit

@@ -8,8 +8,8 @@ use lib.Dec.{eqb}
 use Rattle.notation.specs.Tokens.{among}
 use Rattle.ground.specs.Choice.{choose}
 use Rattle.guard_check.specs.Check.{CheckSays}
-use Rattle.guard_check.specs.declared.verdicts.Verdict.{Verdict}
-use Rattle.guard_check.specs.declared.verdicts.Verdict.the-variants.{Refused}
+use Rattle.saturation.specs.declared.verdict.Verdict.{Verdict}
+use Rattle.saturation.specs.declared.verdict.Verdict.the-variants.{Refused}
 use Rattle.lines.specs.declared.question.Question.{Question}
 use Rattle.lines.specs.declared.question.Question.the-variants.{Malformed, Asks}
 

@@ -5,7 +5,8 @@ use mathlib.Core.List.{List}
 use Rattle.notation.specs.Guard.{Guard}
 use Rattle.truth.specs.Value.{value}
 use Rattle.truth.specs.contracts.Computed.{rootValue}
-use Rattle.truth.proofs.Written.{Begins, written-value}
+use Rattle.truth.specs.contracts.Written.{Begins}
+use Rattle.truth.proofs.Written.{written-value}
 use Rattle.gaps.specs.Gaps.{falseFrom, gapsFrom}
 use Rattle.gaps.proofs.Ascending.{false-same}
 

@@ -11,7 +11,8 @@ use Rattle.notation.proofs.Accepted.{reading-within}
 use Rattle.reading.specs.declared.parse.Guard as counted
 use Rattle.reading.proofs.Serving.{Found}
 use Rattle.truth.specs.contracts.Computed.{Triplets}
-use Rattle.truth.proofs.Written.{Begins, written-triplets}
+use Rattle.truth.specs.contracts.Written.{Begins}
+use Rattle.truth.proofs.Written.{written-triplets}
 
 -- what parse leaves behind where it answers a guard
 module _ (text : List ℕ) (x : counted.Guard) (codes xs : List ℕ) (f : Found text (reading text) x codes xs) where

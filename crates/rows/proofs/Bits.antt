@@ -9,7 +9,7 @@ use lib.Dec.{T, eqb}
 use lib.Pow.{shr-shr}
 use lib.Bits.{bitAnd, bitOr, bitXor, differ, and-shr, and-step, or-shr, xor-shr, or-step, xor-step}
 use lib.Count.{trailingZeros}
-use Rattle.truth.specs.Value.{table}
+use Rattle.truth.specs.Connectives.{table}
 use Rattle.ground.specs.Bits.{bit}
 use Rattle.notation.specs.Tokens.{same}
 use Rattle.ground.proofs.Cases.{digit, parity}

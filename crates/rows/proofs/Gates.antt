@@ -15,9 +15,9 @@ use Rattle.notation.specs.Tokens.{same, implies}
 use Rattle.ground.specs.Choice.{choose}
 use Rattle.notation.specs.Triplets.{tripletVariable}
 use Rattle.notation.specs.contracts.Shape.{kindAt, yAt, zAt}
-use Rattle.truth.specs.Value.{table}
+use Rattle.truth.specs.Connectives.{table, gate}
 use Rattle.ground.specs.Bits.{bit}
-use Rattle.truth.specs.contracts.Computed.{literalValue, gate}
+use Rattle.truth.specs.contracts.Computed.{literalValue}
 use Rattle.ground.proofs.Cases.{parity}
 use Rattle.rows.specs.contracts.Rows.{wordBits, allOnes, inRow, turned, RowMade, RowOf, TripletMade}
 use Rattle.rows.proofs.Bits.{bit-or, bit-xor, bit-none, bit-ones}

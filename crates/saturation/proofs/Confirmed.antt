@@ -14,9 +14,11 @@ use Rattle.notation.specs.Triplets.{Triplet, negation, literal, triplets}
 use Rattle.truth.specs.Value.{value}
 use Rattle.truth.proofs.Literals.{parity}
 use Rattle.saturation.specs.Saturation.{taken, Flags}
-use Rattle.saturation.specs.Answer.{Proper, covered, gap, flagAs, flagsAs, Refuted, Trial, Answer}
+use Rattle.truth.specs.contracts.Written.{Proper}
+use Rattle.saturation.specs.Answer.{flagAs, flagsAs, Refuted, Trial, Answer}
 use Rattle.saturation.proofs.Depth.{raised}
 use Rattle.saturation.proofs.States.{firstOf, first-all, first-half}
+use Rattle.saturation.specs.declared.verdict.Verdict.the-variants.{Covered, Gap}
 use Rattle.saturation.proofs.Verdicts.{not-refuted, first-flags, next-as, gap-false}
 use Rattle.saturation.proofs.Enough.{one-more-0, no-gap-refuted}
 
@@ -54,7 +56,7 @@ module _ (D : ℕ → Type 0) (n : ℕ) (g : Guard) (proper : Proper n g) where
 
   -- a known gap is check's answer once each of its true flags is refuted as false
   pub confirmed : (k s : ℕ) → value n s g ≡ false → Confirms D (triplets 0 g) (literal 0 g) k n s
-      → Answer D (triplets 0 g) (literal 0 g) k n (gap s)
+      → Answer D (triplets 0 g) (literal 0 g) k n (Gap s)
   confirmed k s e c = (
     not-refuted D n g proper k s [] e tt,
     rw (first-all n s) at (confirmed-trial k s e n (omega arith) (rw (first-all n s) c)),
@@ -69,16 +71,16 @@ module _ (D : ℕ → Type 0) (n : ℕ) (g : Guard) (proper : Proper n g) where
   )
 
   -- a greater depth keeps "covered"
-  pub covered-kept : (j k : ℕ) → j ≤ k → Answer D (triplets 0 g) (literal 0 g) j n covered → Answer D (triplets 0 g) (literal 0 g) k n covered
+  pub covered-kept : (j k : ℕ) → j ≤ k → Answer D (triplets 0 g) (literal 0 g) j n Covered → Answer D (triplets 0 g) (literal 0 g) k n Covered
   covered-kept j k h = raised D (triplets 0 g) j k (taken (negation (literal 0 g) ∷ [])) 0 1 h
 
   -- and "gap" with the same state
-  pub gap-kept : (j k s : ℕ) → j ≤ k → Answer D (triplets 0 g) (literal 0 g) j n (gap s) → Answer D (triplets 0 g) (literal 0 g) k n (gap s)
+  pub gap-kept : (j k s : ℕ) → j ≤ k → Answer D (triplets 0 g) (literal 0 g) j n (Gap s) → Answer D (triplets 0 g) (literal 0 g) k n (Gap s)
   gap-kept j k s h a = confirmed k s (gap-false D n g proper j s a) (trial-confirms j k h n s (a .1))
 
   -- at a depth not below n the answer is that of truth tables
   module _ (splits : (f : ℕ) → Flags n f → D f) (k : ℕ) (deep : n ≤ k) where
-    pub full-covered : ((s : ℕ) → s < 2 ^ n → value n s g ≡ true) → Answer D (triplets 0 g) (literal 0 g) k n covered
+    pub full-covered : ((s : ℕ) → s < 2 ^ n → value n s g ≡ true) → Answer D (triplets 0 g) (literal 0 g) k n Covered
     unfolding flagsAs
     full-covered all = no-gap-refuted D n g proper splits n 0 0 k (omega arith) deep (λ s e. all s (omega (arith, div-lt-iff-lt-mul {k = 2 ^ n} {x = s} {y = 1} (pow-pos n) .0 (omega arith))))
 
@@ -98,5 +100,5 @@ module _ (D : ℕ → Type 0) (n : ℕ) (g : Guard) (proper : Proper n g) where
     )
 
     pub full-gap : (s : ℕ) → s < 2 ^ n → value n s g ≡ false → ((t : ℕ) → t < s → value n t g ≡ true)
-        → Answer D (triplets 0 g) (literal 0 g) k n (gap s)
+        → Answer D (triplets 0 g) (literal 0 g) k n (Gap s)
     full-gap s b e all = confirmed k s e (rw (first-all n s) at (full-confirms s all b n (omega arith)))

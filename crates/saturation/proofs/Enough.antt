@@ -13,10 +13,12 @@ use Rattle.relation.specs.Relation.{Rel, IsRelation}
 use Rattle.truth.specs.Value.{value}
 use Rattle.truth.proofs.Literals.{parity}
 use Rattle.saturation.specs.Saturation.{Stable, Flags}
-use Rattle.saturation.specs.Answer.{Proper, undecided, flagAs, flagsAs, Refuted, Trial, Answer}
+use Rattle.truth.specs.contracts.Written.{Proper}
+use Rattle.saturation.specs.Answer.{flagAs, flagsAs, Refuted, Trial, Answer}
 use Rattle.saturation.proofs.Taking.{HoldsAll, taken-above, taking-above, taking-holds}
 use Rattle.saturation.proofs.Depth.{stable-rest}
 use Rattle.saturation.proofs.States.{not-both, firstOf, holds-more}
+use Rattle.saturation.specs.declared.verdict.Verdict.the-variants.{Undecided}
 use Rattle.saturation.proofs.Verdicts.{all-fixed, refuted-true}
 
 -- one flag more, as 0 or as 1
@@ -103,5 +105,5 @@ module _ (D : ℕ → Type 0) (n : ℕ) (g : Guard) (proper : Proper n g) (split
             (parity (s / 2 ^ r))
 
     -- demand: from depth n up the answer is never undecided
-    pub never-undecided : Answer D (triplets 0 g) (literal 0 g) k n undecided → ⊥
+    pub never-undecided : Answer D (triplets 0 g) (literal 0 g) k n Undecided → ⊥
     never-undecided a = trial-goes-on n (a .1 .0) (omega arith) (a .0) (a .1 .1) (a .1 .2)

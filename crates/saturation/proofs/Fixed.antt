@@ -1,18 +1,20 @@
 -- Fixed flags decide: where no step enlarges a relation that ties each flag, it ties the root to the guard's value.
 use Prim.Native.Nat.{ℕ, _+_, _*_, _-_, _≤_, _<_}
 use mathlib.Core.Path.{_≡_, refl, sym, ap₂, _∙_}
-use mathlib.Core.Bool.{Bool, true, false, not, Bool·not-not}
+use mathlib.Core.Bool.{Bool, true, false, not}
 use mathlib.Core.List.{List, [], _∷_, _++_}
 use native.Mathlib.Omega.{arith}
 use Rattle.notation.specs.Tokens.{Sign, same, implies, or, and}
 use Rattle.notation.specs.Guard.{Guard, flag, truth, negated, joined, connectives}
 use Rattle.notation.specs.Triplets.{Triplet, tripletVariable, negation, tripletOf, literalOf, literal, triplets, Each}
 use Rattle.relation.specs.Relation.{Rel, IsRelation}
-use Rattle.truth.specs.Value.{table, value}
+use Rattle.truth.specs.Connectives.{table, gate}
+use Rattle.truth.specs.Value.{value}
+use Rattle.truth.proofs.Root.{or-table, and-table}
 use Rattle.ground.specs.Bits.{bit}
 use Rattle.notation.specs.contracts.Shape.{FlagsWithin}
 use Rattle.notation.proofs.Shaped.{count-triplets}
-use Rattle.steps.specs.Step.{Side, never, always, own-x, own-y, own-z, Values, literalAt, truthAt, connected}
+use Rattle.steps.specs.Step.{Side, never, always, own-x, own-y, own-z, Values, literalAt, truthAt}
 use Rattle.steps.specs.Rest.{HoldsStepOn}
 use Rattle.notation.proofs.EachTriplet.{each-left, each-right}
 
@@ -44,40 +46,17 @@ pub negation-even : (x : ℕ) → negation (2 * x) ≡ 2 * x + 1
 unfolding negation
 negation-even x = omega arith
 
--- what a triplet makes of its operands is what its sign's truth table makes
-pub same-table : (a b : Bool) → connected 1 a b ≡ table same a b
-unfolding table
-same-table true true = refl
-same-table true false = refl
-same-table false true = refl
-same-table false false = refl
-
-pub implies-table : (a b : Bool) → connected 0 a b ≡ table implies a b
-unfolding table
-implies-table true b = refl
-implies-table false b = refl
-
-or-table : (a b : Bool) → connected 0 (not a) b ≡ table or a b
-unfolding table
-or-table true b = refl
-or-table false b = refl
-
-and-table : (a b : Bool) → not (connected 0 a (not b)) ≡ table and a b
-unfolding table
-and-table true b = Bool·not-not b
-and-table false b = refl
-
 module _ (A : Rel) (relation : IsRelation A) where
   -- operands that are tied tie the triplet to what they make of it
   pub step-ties : (t : Triplet) (x : ℕ) (b c : Bool) → HoldsStepOn A A t x → A (t .y) (literalFor b) ≡ true → A (t .z) (literalFor c) ≡ true
-      → A x (literalFor (connected (t .kind) b c)) ≡ true
+      → A x (literalFor (gate (t .kind) b c)) ≡ true
   step-ties t x b c rests p q =
-      let r : Bool = connected (t .kind) b c in
+      let r : Bool = gate (t .kind) b c in
       rw (for-literal x (t .y) (t .z) r) at
       (rests own-x (side-for r)
       (λ v sat obeys.
       sat
-      ∙ ap₂ (connected (t .kind))
+      ∙ ap₂ (gate (t .kind))
       (obeys own-y (side-for b) (rw (for-literal x (t .y) (t .z) b) p) ∙ for-truth v b)
       (obeys own-z (side-for c) (rw (for-literal x (t .y) (t .z) c) q) ∙ for-truth v c)
       ∙ sym (for-truth v r)))
@@ -88,15 +67,15 @@ module _ (A : Rel) (relation : IsRelation A) where
   -- what a sign makes of two tied operands
   pub sign-ties : (s : Sign) (l m x : ℕ) (a b : Bool) → A l (literalFor a) ≡ true → A m (literalFor b) ≡ true
       → HoldsStepOn A A (tripletOf s l m) (2 * x) → A (literalOf s x) (literalFor (table s a b)) ≡ true
-  unfolding tripletOf literalOf
-  sign-ties same l m x a b p q h = rw (same-table a b) at (step-ties (tripletOf same l m) (2 * x) a b h p q)
-  sign-ties implies l m x a b p q h = rw (implies-table a b) at (step-ties (tripletOf implies l m) (2 * x) a b h p q)
+  unfolding tripletOf literalOf gate
+  sign-ties same l m x a b p q h = step-ties (tripletOf same l m) (2 * x) a b h p q
+  sign-ties implies l m x a b p q h = step-ties (tripletOf implies l m) (2 * x) a b h p q
   sign-ties or l m x a b p q h =
       rw (or-table a b) at (step-ties (tripletOf or l m) (2 * x) (not a) b h (negation-ties l a p) q)
   sign-ties and l m x a b p q h =
       let e : negation (2 * x) ≡ 2 * x + 1 = negation-even x in
       rw (e, and-table a b) at
-      (negation-ties (2 * x) (connected 0 a (not b)) (step-ties (tripletOf and l m) (2 * x) a (not b) h p (negation-ties m b q)))
+      (negation-ties (2 * x) (gate 0 a (not b)) (step-ties (tripletOf and l m) (2 * x) a (not b) h p (negation-ties m b q)))
 
   module _ (n s : ℕ) (tied : (i : ℕ) → 0 < i → i ≤ n → A (2 * i) (literalFor (bit s (n - i))) ≡ true) where
     pub root-tied : (g : Guard) (c : ℕ) → FlagsWithin n g → Each (HoldsStepOn A A) c (triplets c g)

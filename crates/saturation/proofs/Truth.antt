@@ -7,9 +7,10 @@ use mathlib.Core.Logic.{⊎-elim}
 use Rattle.notation.specs.Triplets.{Triplet, negation, Each}
 use Rattle.relation.specs.Relation.{Rel, IsRelation, Within}
 use Rattle.ground.proofs.Cases.{either}
+use Rattle.truth.specs.Connectives.{gate}
 use Rattle.truth.specs.contracts.Computed.{literalValue}
 use Rattle.truth.proofs.Literals.{literal-even, literal-odd, literal-negation}
-use Rattle.steps.specs.Step.{Side, never, always, own-x, not-x, own-y, not-y, own-z, not-z, Values, literalAt, truthAt, connected}
+use Rattle.steps.specs.Step.{Side, never, always, own-x, not-x, own-y, not-y, own-z, not-z, Values, literalAt, truthAt}
 use Rattle.steps.specs.Rest.{HoldsStepOn}
 use Rattle.steps.proofs.Sides.{eq-beq, not-self}
 use Rattle.ground.proofs.Truths.{beq-eq}
@@ -23,7 +24,7 @@ agreeing v l m = Bool·beq (literalValue v l) (literalValue v m)
 
 -- v makes a triplet's variable what its operands make of it
 abbrev pub Makes : (ℕ → Bool) → Triplet → ℕ → Type 0
-Makes v t x = literalValue v x ≡ connected (t .kind) (literalValue v (t .y)) (literalValue v (t .z))
+Makes v t x = literalValue v x ≡ gate (t .kind) (literalValue v (t .y)) (literalValue v (t .z))
 
 -- v makes true true and satisfies the triplets
 pub record Satisfying (ts : List Triplet) (v : ℕ → Bool) : Type 0 where

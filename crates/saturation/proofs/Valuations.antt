@@ -1,29 +1,21 @@
 -- The truth valuation of a state: it satisfies the guard's triplets, and the root has the guard's value.
-use Prim.Native.Nat.{ℕ, zero, suc, _+_, _*_, _-_, _≤_, _<_}
-use mathlib.Core.Path.{_≡_, sym, _∙_}
+use Prim.Native.Nat.{ℕ, suc, _+_, _*_, _-_, _≤_, _<_}
+use mathlib.Core.Path.{_≡_, _∙_}
 use mathlib.Core.Bool.{Bool}
 use native.Mathlib.Omega.{arith}
 use lib.ListN.{length}
 use Rattle.notation.proofs.Shaped.{shaped, count-triplets}
 use Rattle.notation.specs.Guard.{Guard, connectives}
 use Rattle.notation.specs.Triplets.{tripletVariable, literal, triplets, numbers}
-use Rattle.notation.specs.contracts.Shape.{kindAt}
 use Rattle.truth.specs.Value.{value}
 use Rattle.ground.specs.Bits.{bit}
-use Rattle.truth.specs.contracts.Computed.{literalValue, gate, computed, Valued}
+use Rattle.truth.specs.contracts.Computed.{literalValue, computed, Valued}
 use Rattle.truth.proofs.Literals.{literal-even}
 use Rattle.truth.proofs.Computing.{valued}
 use Rattle.truth.proofs.Root.{root-value}
-use Rattle.steps.specs.Step.{connected}
 use Rattle.notation.proofs.EachTriplet.{at-each, tripletAt}
-use Rattle.saturation.specs.Answer.{Proper}
-use Rattle.saturation.proofs.Fixed.{same-table, implies-table}
+use Rattle.truth.specs.contracts.Written.{Proper}
 use Rattle.saturation.proofs.Truth.{Makes, Satisfying}
-
-pub gate-connected : (k : ℕ) (a b : Bool) → gate k a b ≡ connected k a b
-unfolding gate
-gate-connected zero a b = sym (implies-table a b)
-gate-connected (suc k) a b = sym (same-table a b)
 
 -- the values of all variables in the state s
 unfoldable pub valuation : ℕ → Guard → ℕ → ℕ → Bool
@@ -46,7 +38,6 @@ module _ (n : ℕ) (g : Guard) (proper : Proper n g) (s : ℕ) where
           let e : 2 * tripletVariable (0 + (j + 1)) ≡ 2 * tripletVariable (suc j) = omega arith in
           literal-even (valuation n g s) (2 * tripletVariable (0 + (j + 1))) (tripletVariable (suc j)) e
           ∙ given .gates j (rw (count-triplets 0 g) at h)
-          ∙ gate-connected (kindAt (numbers (triplets 0 g)) j) _ _
 
   pub valuation-flags : (i : ℕ) → 0 < i → i ≤ n → valuation n g s i ≡ bit s (n - i)
   valuation-flags = given .flags

@@ -17,7 +17,10 @@ use Rattle.truth.proofs.Literals.{literal-even, literal-negation, parity}
 use Rattle.steps.specs.Rest.{NoStepEnlarges}
 use Rattle.steps.proofs.Sides.{negation-twice}
 use Rattle.saturation.specs.Saturation.{taken, Saturated}
-use Rattle.saturation.specs.Answer.{Proper, Verdict, covered, gap, undecided, flagAs, flagsAs, Refuted, Trial, Answer}
+use Rattle.truth.specs.contracts.Written.{Proper}
+use Rattle.saturation.specs.Answer.{flagAs, flagsAs, Refuted, Trial, Answer}
+use Rattle.saturation.specs.declared.verdict.Verdict.{Verdict}
+use Rattle.saturation.specs.declared.verdict.Verdict.the-variants.{Covered, Gap, Undecided, Refused}
 use Rattle.saturation.proofs.Taking.{HoldsAll, above-taken, taken-above}
 use Rattle.saturation.proofs.Depth.{stable-rest}
 use Rattle.saturation.proofs.Truth.{AllTrue, Satisfying, agreeing, all-held, true-literal, false-literal, saturated-true, never-refuted}
@@ -54,7 +57,7 @@ module _ (D : ℕ → Type 0) (n : ℕ) (g : Guard) (proper : Proper n g) (k : �
       (either (value n s g))
 
   -- demand: covered is said only where the guard is true in every state
-  pub covered-true : Answer D (triplets 0 g) (literal 0 g) k n covered → (s : ℕ) → value n s g ≡ true
+  pub covered-true : Answer D (triplets 0 g) (literal 0 g) k n Covered → (s : ℕ) → value n s g ≡ true
   covered-true r s =
       ⊎-elim (λ (e : value n s g ≡ true). e) (λ (e : value n s g ≡ false). absurd (not-refuted s [] e tt r))
       (either (value n s g))
@@ -96,7 +99,7 @@ module _ (D : ℕ → Type 0) (n : ℕ) (g : Guard) (proper : Proper n g) (k : �
       all-fixed s A e r (stable-rest D (triplets 0 g) k A stable) (holds .0) (holds .1)
 
   -- demand: a gap that is named makes the guard false
-  pub gap-false : (s : ℕ) → Answer D (triplets 0 g) (literal 0 g) k n (gap s) → value n s g ≡ false
+  pub gap-false : (s : ℕ) → Answer D (triplets 0 g) (literal 0 g) k n (Gap s) → value n s g ≡ false
   gap-false s a =
       ⊎-elim (λ (e : value n s g ≡ true). absurd (a .2 (fixed-refuted s e))) (λ (e : value n s g ≡ false). e)
       (either (value n s g))
@@ -129,7 +132,7 @@ module _ (D : ℕ → Type 0) (n : ℕ) (g : Guard) (proper : Proper n g) (k : �
       (split-eq (p / 2) (q / 2))
 
   -- demand: a gap that is named is the first state that makes the guard false
-  pub gap-first : (s : ℕ) → Answer D (triplets 0 g) (literal 0 g) k n (gap s) → (t : ℕ) → value n t g ≡ false → s ≤ t
+  pub gap-first : (s : ℕ) → Answer D (triplets 0 g) (literal 0 g) k n (Gap s) → (t : ℕ) → value n t g ≡ false → s ≤ t
   gap-first s a t e = rw (first-all n t) at (not-passed t e n s (omega arith) (a .1))
 
 -- no second answer holds
@@ -152,12 +155,16 @@ module _ (D : ℕ → Type 0) (ts : List Triplet) (root k : ℕ) where
       (parity p)
 
   pub answer-unique : (n : ℕ) (v w : Verdict) → Answer D ts root k n v → Answer D ts root k n w → v ≡ w
-  answer-unique n covered covered a b = refl
-  answer-unique n covered (gap t) a b = absurd (b .0 a)
-  answer-unique n covered undecided a b = absurd (b .0 a)
-  answer-unique n (gap s) covered a b = absurd (a .0 b)
-  answer-unique n (gap s) (gap t) a b = ap gap (trial-unique n s t (a .1) (b .1))
-  answer-unique n (gap s) undecided a b = absurd (a .2 (rw (trial-unique n s (b .1 .0) (a .1) (b .1 .1)) (b .1 .2)))
-  answer-unique n undecided covered a b = absurd (a .0 b)
-  answer-unique n undecided (gap t) a b = absurd (b .2 (rw (trial-unique n t (a .1 .0) (b .1) (a .1 .1)) (a .1 .2)))
-  answer-unique n undecided undecided a b = refl
+  answer-unique n Covered Covered a b = refl
+  answer-unique n Covered (Gap t) a b = absurd (b .0 a)
+  answer-unique n Covered Undecided a b = absurd (b .0 a)
+  answer-unique n Covered (Refused f) a b = absurd b
+  answer-unique n (Gap s) Covered a b = absurd (a .0 b)
+  answer-unique n (Gap s) (Gap t) a b = ap Gap (trial-unique n s t (a .1) (b .1))
+  answer-unique n (Gap s) Undecided a b = absurd (a .2 (rw (trial-unique n s (b .1 .0) (a .1) (b .1 .1)) (b .1 .2)))
+  answer-unique n (Gap s) (Refused f) a b = absurd b
+  answer-unique n Undecided Covered a b = absurd (a .0 b)
+  answer-unique n Undecided (Gap t) a b = absurd (b .2 (rw (trial-unique n t (a .1 .0) (b .1) (a .1 .1)) (a .1 .2)))
+  answer-unique n Undecided Undecided a b = refl
+  answer-unique n Undecided (Refused f) a b = absurd b
+  answer-unique n (Refused f) w a b = absurd a

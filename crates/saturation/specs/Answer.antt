@@ -1,24 +1,13 @@
 -- What check answers at a depth, by saturation and the trial of flags.
-use Prim.Native.Nat.{ℕ, zero, suc, _+_, _*_, _/_, _%_, _≤_}
+use Prim.Native.Nat.{ℕ, zero, suc, _+_, _*_, _/_, _%_}
 use mathlib.Core.Path.{_≡_}
 use mathlib.Core.List.{List, [], _∷_}
 use mathlib.Core.Logic.{_↔_}
-use Rattle.notation.specs.Ceilings.{flagCeiling}
 use Rattle.notation.specs.Guard.{Guard}
 use Rattle.notation.specs.Triplets.{Triplet, negation, literal, triplets}
-use Rattle.notation.specs.contracts.Shape.{FlagsWithin}
 use Rattle.saturation.specs.Saturation.{taken, Saturated, Flags}
-
--- a guard of n flags, as reading makes it
-pub record Proper (n : ℕ) (g : Guard) : Type 0 where
-  pub few : n ≤ flagCeiling
-  pub within : FlagsWithin n g
-
--- covered, a gap with its state, or undecided
-pub data Verdict : Type 0 where
-  covered : Verdict
-  gap : ℕ → Verdict
-  undecided : Verdict
+use Rattle.saturation.specs.declared.verdict.Verdict.{Verdict}
+use Rattle.saturation.specs.declared.verdict.Verdict.the-variants.{Covered, Gap, Undecided, Refused}
 
 -- the literal of flag i that is true where the flag is 1, or where it is 0
 abbrev pub flagAs : ℕ → ℕ → ℕ
@@ -40,11 +29,12 @@ module _ (D : ℕ → Type 0) (ts : List Triplet) (root k : ℕ) where
   Trial zero s = s ≡ 0
   Trial (suc i) s = Trial i (s / 2) × ((s % 2 ≡ 1) ↔ Refuted (flagAs (suc i) 0 ∷ flagsAs i (s / 2)))
 
-  -- the answer of check for a guard of n flags
+  -- the answer of check for a guard of n flags, which is never refused
   abbrev pub Answer : ℕ → Verdict → Type 0
-  Answer n covered = Refuted []
-  Answer n (gap s) = (Refuted [] → ⊥) × Trial n s × (Refuted (flagsAs n s) → ⊥)
-  Answer n undecided = (Refuted [] → ⊥) × ((s : ℕ) × Trial n s × Refuted (flagsAs n s))
+  Answer n Covered = Refuted []
+  Answer n (Gap s) = (Refuted [] → ⊥) × Trial n s × (Refuted (flagsAs n s) → ⊥)
+  Answer n Undecided = (Refuted [] → ⊥) × ((s : ℕ) × Trial n s × Refuted (flagsAs n s))
+  Answer n (Refused f) = ⊥
 
 -- what check answers for a guard of n flags at depth k, splitting on flags
 abbrev pub Checked : ℕ → Guard → ℕ → Verdict → Type 0

@@ -1,2 +1,3 @@
-// k-saturation: rest, and splits on flags, until neither adds anything.
+// k-saturation: rest, and splits on flags, until neither adds anything; and the verdicts that it leads to.
 pub mod saturate;
+pub mod verdict;

@@ -6,7 +6,6 @@ use relation::ranking::size_of;
 use relation::sharing::share;
 use steps::rest::FIRST;
 use steps::rest::rest;
-ghost use Prim.Native.Nat.{ℕ, _+_, _*_, _≤_, _<_};
 ghost use Rattle.relation.specs.contracts.Classes.{kept};
 ghost use Rattle.steps.specs.Rest.{NoStepEnlarges};
 ghost use Rattle.steps.specs.contracts.Resting.{tripletsAt};

@@ -1,6 +1,6 @@
 -- Computed certificates: a run of steps and splits that ends contradictory shows that the saturation is, and a sketch
 -- that no step moves shows that it is not.
-use Prim.Native.Nat.{ℕ, zero, suc, _+_, _*_, _/_, _%_, _≤_}
+use Prim.Native.Nat.{ℕ, zero, suc, _+_, _*_, _/_, _≤_}
 use mathlib.Core.Path.{_≡_, refl}
 use mathlib.Core.Bool.{Bool, true, false, _&&_, false≢true}
 use mathlib.Core.List.{List, [], _∷_, _++_}
@@ -23,7 +23,8 @@ use Rattle.steps.proofs.StepLaws.{settled, entry-contradicted, entry-held}
 use Rattle.saturation.specs.Saturation.{taken, Stable, Saturated}
 use Rattle.saturation.proofs.Taking.{HoldsAll, above-taken, taken-above, taking-above, taking-holds}
 use Rattle.saturation.proofs.Depth.{Among, stable-rest}
-use Rattle.starred.proofs.Sketches.{Binding, signed, lead, sketched, HoldsEach, sign-back, lead-held, sketched-within, sketched-relation, sketched-consistent}
+use Rattle.notation.specs.contracts.Writing.{signed}
+use Rattle.starred.proofs.Sketches.{Binding, lead, sketched, HoldsEach, sign-back, lead-held, sketched-within, sketched-relation, sketched-consistent}
 
 -- a sketch, or none where it has become contradictory
 abbrev Sketch : Type 0
@@ -39,7 +40,7 @@ joined bs l m =
     let a : ℕ = lead bs l in
     let b : ℕ = lead bs m in
     choose (eqb a b) (some bs)
-    (choose (eqb (a / 2) (b / 2)) none (some (bs ++ (record { variable = a / 2; literal = signed b (a % 2) } ∷ []))))
+    (choose (eqb (a / 2) (b / 2)) none (some (bs ++ (record { variable = a / 2; literal = signed b a } ∷ []))))
 
 -- what pattern e names is joined
 unfoldable pub named : ℕ → ℕ → ℕ → ℕ → List Binding → Sketch
@@ -104,7 +105,7 @@ module _ (A : Rel) (relation : IsRelation A) where
           (relation .transitive l m (lead bs m) e (lead-held A relation bs m h))
 
       pick : (p : Bool) → eqb (lead bs l) (lead bs m) ≡ p → (q : Bool) → eqb (lead bs l / 2) (lead bs m / 2) ≡ q
-          → Sound A (choose p (some bs) (choose q none (some (bs ++ (record { variable = lead bs l / 2; literal = signed (lead bs m) (lead bs l % 2) } ∷ [])))))
+          → Sound A (choose p (some bs) (choose q none (some (bs ++ (record { variable = lead bs l / 2; literal = signed (lead bs m) (lead bs l) } ∷ [])))))
       pick true d q r = h
       pick false d true r =
           relation .contradiction (lead bs l)

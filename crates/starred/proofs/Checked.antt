@@ -8,14 +8,18 @@ use lib.ListN.{length}
 use Rattle.notation.specs.Tokens.{same, implies, or, and}
 use Rattle.notation.specs.Guard.{Guard, flag, negated, joined, connectives}
 use Rattle.notation.specs.Triplets.{tripletVariable, negation, tripletOf, literalOf, literal, triplets}
-use Rattle.truth.specs.Value.{table, value}
+use Rattle.truth.specs.Connectives.{table, gate}
+use Rattle.truth.specs.Value.{value}
 use Rattle.ground.specs.Bits.{bit}
 use Rattle.steps.specs.Table.{entry, follows, pattern}
 use Rattle.saturation.specs.Saturation.{Flags}
-use Rattle.saturation.specs.Answer.{Proper, covered, gap, undecided, flagAs, flagsAs, Refuted, Checked}
-use Rattle.starred.proofs.Sketches.{Binding, signed, replaced, lead, sketched}
+use Rattle.truth.specs.contracts.Written.{Proper}
+use Rattle.saturation.specs.Answer.{flagAs, flagsAs, Refuted, Checked}
+use Rattle.notation.specs.contracts.Writing.{signed}
+use Rattle.starred.proofs.Sketches.{Binding, replaced, lead, sketched}
 use Rattle.starred.proofs.Certificates.{joined as joins, named, stepped, passed, rested, begun, refutes, unmoved, holding, run-refutes, sketch-stands}
 use Rattle.saturation.proofs.Depth.{Among}
+use Rattle.saturation.specs.declared.verdict.Verdict.the-variants.{Covered, Gap, Undecided}
 use Rattle.saturation.proofs.Verdicts.{not-refuted}
 use Rattle.saturation.proofs.Confirmed.{confirmed}
 
@@ -34,21 +38,21 @@ bound v l = record { variable = v; literal = l }
 abbrev pub both-or-not : Guard
 both-or-not = joined or (joined and (flag 1) (flag 2)) (joined or (negated (flag 1)) (negated (flag 2)))
 
-pub both-or-not-covered : Checked 2 both-or-not 0 covered
-unfolding refutes begun rested passed stepped named joins signed replaced lead sketched entry follows pattern triplets literal tripletOf literalOf connectives negation
+pub both-or-not-covered : Checked 2 both-or-not 0 Covered
+unfolding refutes begun rested passed stepped named joins signed replaced lead sketched entry follows pattern gate table triplets literal tripletOf literalOf connectives negation
 both-or-not-covered = refuted-by 2 both-or-not 3 [] 0 [] (omega arith) tt refl
 
 -- `(p>q)=(!q>!p)`
 abbrev pub contraposed : Guard
 contraposed = joined same (joined implies (flag 1) (flag 2)) (joined implies (negated (flag 2)) (negated (flag 1)))
 
-pub contraposed-covered : Checked 2 contraposed 1 covered
-unfolding refutes begun rested passed stepped named joins signed replaced lead sketched entry follows pattern triplets literal tripletOf literalOf connectives negation
+pub contraposed-covered : Checked 2 contraposed 1 Covered
+unfolding refutes begun rested passed stepped named joins signed replaced lead sketched entry follows pattern gate table triplets literal tripletOf literalOf connectives negation
 contraposed-covered = refuted-by 2 contraposed 2 (1 ∷ []) 1 [] (omega arith) ((omega arith, omega arith), tt) refl
 
 -- at depth 0 the root leaves both flags open, each is found to be 1, and that is contradictory
-pub contraposed-undecided : Checked 2 contraposed 0 undecided
-unfolding refutes begun rested passed stepped named joins signed replaced lead sketched entry follows pattern triplets literal tripletOf literalOf connectives negation unmoved holding flagsAs
+pub contraposed-undecided : Checked 2 contraposed 0 Undecided
+unfolding refutes begun rested passed stepped named joins signed replaced lead sketched entry follows pattern gate table triplets literal tripletOf literalOf connectives negation unmoved holding flagsAs
 contraposed-undecided = (
   not-refuted-by 2 contraposed (bound (tripletVariable 3) 1 ∷ bound (tripletVariable 2) (2 * tripletVariable 1 + 1) ∷ []) [] refl refl,
   (
@@ -77,8 +81,8 @@ unfolding value table bit
 gap-4 = refl
 
 -- at depth 0 the flag a as 0 is not refuted, and then both others are found to be 1
-pub unless-a-undecided : Checked 3 unless-a 0 undecided
-unfolding refutes begun rested passed stepped named joins signed replaced lead sketched entry follows pattern triplets literal tripletOf literalOf connectives negation unmoved holding flagsAs
+pub unless-a-undecided : Checked 3 unless-a 0 Undecided
+unfolding refutes begun rested passed stepped named joins signed replaced lead sketched entry follows pattern gate table triplets literal tripletOf literalOf connectives negation unmoved holding flagsAs
 unless-a-undecided = (
   not-refuted (Flags 3) 3 unless-a unless-a-proper 0 4 [] gap-4 tt,
   (
@@ -95,8 +99,8 @@ unless-a-undecided = (
 )
 
 -- at depth 1 a split on p refutes a as 0
-pub unless-a-gap : Checked 3 unless-a 1 (gap 4)
-unfolding refutes begun rested passed stepped named joins signed replaced lead sketched entry follows pattern triplets literal tripletOf literalOf connectives negation flagsAs
+pub unless-a-gap : Checked 3 unless-a 1 (Gap 4)
+unfolding refutes begun rested passed stepped named joins signed replaced lead sketched entry follows pattern gate table triplets literal tripletOf literalOf connectives negation flagsAs
 unless-a-gap =
     confirmed (Flags 3) 3 unless-a unless-a-proper 1 4 gap-4 (
       (

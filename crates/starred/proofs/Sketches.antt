@@ -1,6 +1,6 @@
 -- A relation sketched as bindings of variables to literals, made one after the other: it is computed, and no more than
 -- what follows from what was bound.
-use Prim.Native.Nat.{ℕ, zero, suc, _*_, _/_, _%_}
+use Prim.Native.Nat.{ℕ, _*_, _/_, _%_}
 use mathlib.Core.Path.{_≡_, refl, sym, ap, _∙_}
 use mathlib.Core.Bool.{Bool, true, false}
 use mathlib.Core.List.{List, [], _∷_}
@@ -10,10 +10,11 @@ use lib.Dec.{eqb}
 use borrow.Author.Tests.{eqb-true, eq-eqb, ne-eqb}
 use Rattle.ground.specs.Choice.{choose}
 use Rattle.notation.specs.Triplets.{negation}
+use Rattle.notation.specs.contracts.Writing.{signed}
 use Rattle.relation.specs.Relation.{Rel, IsRelation, Within}
 use Rattle.ground.proofs.Cases.{split-eq}
 use Rattle.notation.proofs.Shaped.{negation-half}
-use Rattle.relation.proofs.LiteralLaws.{negation-differs}
+use Rattle.relation.proofs.LiteralLaws.{signed-even, signed-odd, negation-differs}
 use Rattle.truth.proofs.Literals.{parity}
 use Rattle.steps.proofs.Sides.{negation-twice}
 
@@ -22,13 +23,8 @@ pub record Binding : Type 0 where
   pub variable : ℕ
   pub literal : ℕ
 
--- the literal w, or its negation where the sign is 1
-unfoldable pub signed : ℕ → ℕ → ℕ
-signed w zero = w
-signed w (suc s) = negation w
-
 unfoldable pub replaced : Binding → ℕ → ℕ
-replaced b l = choose (eqb (l / 2) (b .variable)) (signed (b .literal) (l % 2)) l
+replaced b l = choose (eqb (l / 2) (b .variable)) (signed (b .literal) l) l
 
 -- where a literal leads after all replacements
 unfoldable pub lead : List Binding → ℕ → ℕ
@@ -55,19 +51,18 @@ negation-odd l h = omega arith
 odd-half : (l : ℕ) → l % 2 ≡ 1 → 2 * (l / 2) ≡ negation l
 odd-half l h = omega (arith, negation-half l, negation-odd l h)
 
-signed-negation : (w l : ℕ) → signed w (negation l % 2) ≡ negation (signed w (l % 2))
-unfolding signed
+signed-negation : (w l : ℕ) → signed w (negation l) ≡ negation (signed w l)
 signed-negation w l =
     ⊎-elim
-    (λ (p : l % 2 ≡ 0). rw (p, negation-even l p))
-    (λ (p : l % 2 ≡ 1). rw (p, negation-odd l p) (sym (negation-twice w)))
+    (λ (p : l % 2 ≡ 0). rw (signed-even w l p, signed-odd w (negation l) (negation-even l p)))
+    (λ (p : l % 2 ≡ 1). rw (signed-odd w l p, signed-even w (negation l) (negation-odd l p)) (sym (negation-twice w)))
     (parity l)
 
 replaced-negation : (b : Binding) (l : ℕ) → replaced b (negation l) ≡ negation (replaced b l)
 unfolding replaced
 replaced-negation b l = rw (negation-half l) (either-way (eqb (l / 2) (b .variable)))
   where
-    either-way : (c : Bool) → choose c (signed (b .literal) (negation l % 2)) (negation l) ≡ negation (choose c (signed (b .literal) (l % 2)) l)
+    either-way : (c : Bool) → choose c (signed (b .literal) (negation l)) (negation l) ≡ negation (choose c (signed (b .literal) l) l)
     either-way true = signed-negation (b .literal) l
     either-way false = refl
 
@@ -106,20 +101,18 @@ module _ (A : Rel) (relation : IsRelation A) where
   at-negation a b e = rw (negation-twice a) at (relation .negating (negation a) b e)
 
   -- w = m, with the sign of l on both sides
-  sign-held : (l m : ℕ) → A (2 * (l / 2)) m ≡ true → A l (signed m (l % 2)) ≡ true
-  unfolding signed
+  sign-held : (l m : ℕ) → A (2 * (l / 2)) m ≡ true → A l (signed m l) ≡ true
   sign-held l m e =
       ⊎-elim
-      (λ (p : l % 2 ≡ 0). let q : 2 * (l / 2) ≡ l = omega arith in rw p (rw q at e))
-      (λ (p : l % 2 ≡ 1). let q : 2 * (l / 2) ≡ negation l = odd-half l p in rw p (at-negation l m (rw q at e)))
+      (λ (p : l % 2 ≡ 0). let q : 2 * (l / 2) ≡ l = omega arith in rw (signed-even m l p) (rw q at e))
+      (λ (p : l % 2 ≡ 1). let q : 2 * (l / 2) ≡ negation l = odd-half l p in rw (signed-odd m l p) (at-negation l m (rw q at e)))
       (parity l)
 
-  pub sign-back : (l m : ℕ) → A l m ≡ true → A (2 * (l / 2)) (signed m (l % 2)) ≡ true
-  unfolding signed
+  pub sign-back : (l m : ℕ) → A l m ≡ true → A (2 * (l / 2)) (signed m l) ≡ true
   sign-back l m e =
       ⊎-elim
-      (λ (p : l % 2 ≡ 0). let q : 2 * (l / 2) ≡ l = omega arith in rw (p, q) e)
-      (λ (p : l % 2 ≡ 1). let q : 2 * (l / 2) ≡ negation l = odd-half l p in rw (p, q) (relation .negating l m e))
+      (λ (p : l % 2 ≡ 0). let q : 2 * (l / 2) ≡ l = omega arith in rw (signed-even m l p, q) e)
+      (λ (p : l % 2 ≡ 1). let q : 2 * (l / 2) ≡ negation l = odd-half l p in rw (signed-odd m l p, q) (relation .negating l m e))
       (parity l)
 
   replaced-held : (b : Binding) (l : ℕ) → A (2 * b .variable) (b .literal) ≡ true → A l (replaced b l) ≡ true

@@ -1,26 +1,28 @@
 -- Two slips that steps must not make: `!A>A` with root true makes A true, and `A=B` with root false ties no flag.
 use Prim.Native.Nat.{ℕ, zero, suc, _*_, _≤_, _<_}
 use mathlib.Core.Path.{_≡_, refl, sym}
-use mathlib.Core.Bool.{Bool, true, false, not, _||_, false≢true}
+use mathlib.Core.Bool.{Bool, true, false, not, false≢true}
 use mathlib.Core.List.{[], _∷_}
 use native.Mathlib.Omega.{arith}
 use Rattle.notation.specs.Tokens.{same, implies}
 use Rattle.notation.specs.Guard.{Guard, flag, negated, joined, connectives}
 use Rattle.notation.specs.Triplets.{negation, tripletOf, literalOf, literal, triplets}
-use Rattle.truth.specs.Value.{table, value}
+use Rattle.truth.specs.Connectives.{table, gate}
+use Rattle.truth.specs.Value.{value}
 use Rattle.ground.specs.Bits.{bit}
 use Rattle.steps.specs.Step.{always, own-x, not-y, own-z}
 use Rattle.saturation.specs.Saturation.{taken, Saturated}
 use Rattle.saturation.proofs.Taking.{taken-above, above-taken}
 use Rattle.saturation.proofs.Fixed.{literalFor}
-use Rattle.saturation.specs.Answer.{Proper}
+use Rattle.truth.specs.contracts.Written.{Proper}
 use Rattle.saturation.proofs.Verdicts.{tied-in-gaps}
 
 -- `!A>A`
 abbrev pub unless-itself : Guard
 unless-itself = joined implies (negated (flag 1)) (flag 1)
 
-must-be : (x y z : Bool) → x ≡ true → not y ≡ z → x ≡ not y || z → z ≡ true
+must-be : (x y z : Bool) → x ≡ true → not y ≡ z → x ≡ gate 0 y z → z ≡ true
+unfolding gate table
 must-be true true true p q r = refl
 must-be true true false p q r = sym r
 must-be true false true p q r = refl

@@ -14,7 +14,8 @@ use Rattle.notation.specs.Guard.{Guard, flag, truth, joined, connectives}
 use Rattle.notation.specs.Grammar.{follow, number, sameSign, isSign, signNext, past, toTheLeft, toTheRight, leftLevel, rightLevel, andOf, orOf, impliesOf, sameOf, closed, operandOf, inBrackets, treeOf, tree}
 use Rattle.notation.specs.Triplets.{tripletVariable, tripletOf, literalOf, literal, triplets}
 use Rattle.notation.specs.Reading.{guard, judged, reading}
-use Rattle.truth.specs.Value.{table, value}
+use Rattle.truth.specs.Connectives.{table}
+use Rattle.truth.specs.Value.{value}
 use Rattle.ground.specs.Bits.{bit}
 use Rattle.gaps.specs.Gaps.{falseFrom, gapsFrom}
 use Rattle.gaps.specs.Writing.{found, placed}
@@ -24,7 +25,7 @@ use Rattle.list.specs.declared.Listing.the-variants as listing
 use Rattle.starred.proofs.Checked as desk
 use Rattle.starred.specs.Table.{implication, DeskTable}
 use Rattle.ground.specs.Bytes.{bytes}
-use Rattle.guard_check.specs.declared.verdicts.Verdict.the-variants.{Covered, Gap, Undecided}
+use Rattle.saturation.specs.declared.verdict.Verdict.the-variants.{Covered, Gap, Undecided}
 use Rattle.guard_check.proofs.Checking.{guard-too}
 
 -- the flag at a place with a code of one byte

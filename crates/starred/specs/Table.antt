@@ -1,7 +1,6 @@
 -- The outline's starred examples, one table: each line speaks of a text, and of what the services answer for it.
 use Prim.Native.Nat.{ℕ, _*_, _≤_}
-use Prim.Native.Char.{code}
-use Prim.Native.String.{String, [] as []ᵗ, _∷_ as _∷ᵗ_}
+use Prim.Native.String.{String}
 use mathlib.Core.Path.{_≡_}
 use mathlib.Core.List.{List, [], _∷_, _++_}
 use lib.ListN.{length, drop}
@@ -13,8 +12,8 @@ use Rattle.list.specs.Listed.{Lists}
 use Rattle.gaps.specs.declared.writing.Found.the-variants.{Done, More}
 use Rattle.list.specs.declared.Listing.the-variants as listing
 use Rattle.guard_check.specs.Check.{CheckSays}
-use Rattle.guard_check.specs.declared.verdicts.Verdict.{Verdict}
-use Rattle.guard_check.specs.declared.verdicts.Verdict.the-variants.{Covered, Gap, Undecided}
+use Rattle.saturation.specs.declared.verdict.Verdict.{Verdict}
+use Rattle.saturation.specs.declared.verdict.Verdict.the-variants.{Covered, Gap, Undecided}
 use Rattle.ground.specs.Bytes.{bytes}
 
 -- the text is a guard with these triplets

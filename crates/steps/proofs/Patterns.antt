@@ -24,7 +24,8 @@ at-earliest : (f : Side → Bool) (ss : List Side) (d : Side) → getD ss (earli
 at-earliest f [] d = refl
 at-earliest f (s ∷ ss) d = choose-getD (f s) s ss (earliest f ss) d ∙ ap (choose (f s) s) (at-earliest f ss d)
 
-step-up : (b : Bool) (k m : ℕ) → k ≤ m → choose b 0 (suc k) ≤ suc m
+-- a place one later is one higher at most
+pub step-up : (b : Bool) (k m : ℕ) → k ≤ m → choose b 0 (suc k) ≤ suc m
 step-up true k m h = zero-le
 step-up false k m h = suc-le-suc h
 

@@ -1,7 +1,6 @@
 -- The pattern of x, y and z in a consistent array, by the literals that they lead to.
 use Prim.Native.Nat.{ℕ, zero, suc, _+_, _*_, _/_, _%_, _≤_}
 use mathlib.Core.Path.{_≡_, refl, sym, _∙_, ap, ap₂}
-use mathlib.Core.Bool.{Bool, true, false}
 use mathlib.Core.List.{List, [], _∷_}
 use mathlib.Core.Logic.{⊎-elim}
 use native.Mathlib.Omega.{arith}
@@ -9,7 +8,6 @@ use lib.ListN.{getD}
 use lib.Dec.{eqb}
 use borrow.Author.Tests.{eq-eqb, ne-eqb}
 use Rattle.notation.specs.Triplets.{negation}
-use Rattle.ground.specs.Choice.{choose}
 use Rattle.relation.specs.contracts.Classes.{lead, relation}
 use Rattle.ground.proofs.Cases.{split-eq}
 use Rattle.relation.proofs.LiteralLaws.{same-variable}
@@ -17,6 +15,7 @@ use Rattle.relation.proofs.ClassLaws.{lead-is, lead-negation, relation-leads, l
 use Rattle.steps.specs.Step.{Side, own-x, own-y, own-z, literalAt}
 use Rattle.steps.specs.Table.{xNames, yNames, zNames, earliest, pattern, patternOf}
 use Rattle.steps.specs.contracts.Leading.{place, xPlace, yPlace, zPlace, Patterned}
+use Rattle.steps.proofs.Patterns.{step-up}
 
 -- a literal of m's variable has one of the two places of m and its negation
 place-here : (l m : ℕ) (ms : List ℕ) → l / 2 ≡ m / 2 → place l (m ∷ negation m ∷ ms) ≡ (l + m) % 2
@@ -88,10 +87,6 @@ unfolding zPlace
 z-own a b c d e g =
     first-past c (a ∷ negation a ∷ b ∷ negation b ∷ []) d
     ∙ ap (λ (k : ℕ). 2 + k) (place-past c a (b ∷ negation b ∷ []) e ∙ ap (λ (k : ℕ). 2 + k) (place-past c b [] g))
-
-step-up : (b : Bool) (k m : ℕ) → k ≤ m → choose b 0 (suc k) ≤ suc m
-step-up true k m h = omega arith
-step-up false k m h = omega arith
 
 pub x-most : (a : ℕ) → xPlace a ≤ 2
 unfolding xPlace

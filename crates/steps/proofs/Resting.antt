@@ -1,17 +1,18 @@
 -- Passes over the triplets: between the start and every relation above it that no step enlarges, until no step does.
-use Prim.Native.Nat.{ℕ, zero, suc, _+_, _*_, _/_, _≤_, _<_}
+use Prim.Native.Nat.{ℕ, zero, suc, _+_, _*_, _≤_, _<_}
 use mathlib.Core.Path.{_≡_, refl, sym, subst}
 use mathlib.Core.Bool.{true}
 use mathlib.Core.List.{List, [], _∷_}
-use mathlib.Core.Logic.{inl, inr, ⊎-elim}
+use mathlib.Core.Logic.{⊎-elim}
 use native.Mathlib.Omega.{arith}
 use lib.ListN.{length, length-append}
-use Rattle.notation.specs.Ceilings.{flagCeiling, connectiveCeiling}
 use Rattle.notation.specs.Triplets.{Triplet, tripletVariable, Each}
-use Rattle.notation.specs.contracts.Shape.{Names, kindAt, yAt, zAt, Shape}
-use Rattle.relation.specs.Relation.{Rel, IsRelation, Within}
+use Rattle.notation.specs.contracts.Shape.{kindAt, yAt, zAt}
+use Rattle.truth.specs.contracts.Computed.{Triplets}
+use Rattle.truth.proofs.Computing.{named-below}
+use Rattle.relation.specs.Relation.{Rel, Within}
 use Rattle.relation.specs.contracts.Growing.{Growth}
-use Rattle.relation.specs.contracts.Classes.{entry, relation, contradictory, kept, Classes, rank}
+use Rattle.relation.specs.contracts.Classes.{entry, contradictory, kept, Classes, rank}
 use Rattle.ground.proofs.Cases.{split-eq}
 use Rattle.relation.proofs.RelationLaws.{within-trans, growth-none, growth-more, growth-least, least-below}
 use Rattle.relation.proofs.ClassLaws.{relation-all, is-relation}
@@ -67,35 +68,15 @@ rest-same ts R S w v h =
     h
 
 -- ---- which variables are in use
--- an operand of one of the first c triplets is a variable in use
-pub names-inside : (c j l : ℕ) → j < c → Names flagCeiling j l → l / 2 < inUse c
-names-inside c j l h n = ⊎-elim (λ (p : l / 2 ≤ flagCeiling). omega arith) (λ p. omega arith) n
-
--- what names one of n flags names one of more
-names-more : (n m c l : ℕ) → n ≤ m → Names n c l → Names m c l
-names-more n m c l h k =
-    ⊎-elim (λ (p : l / 2 ≤ n). inl (omega arith)) (λ p. inr p) k
-
--- what reading wrote can be rested on
-pub readable-from : (n c : ℕ) (numbers : List ℕ) → n ≤ flagCeiling → c ≤ connectiveCeiling → 3 * c ≤ length numbers → Shape n c numbers → Readable numbers c
-readable-from n c numbers flags few long s =
-    record {
-      long = long;
-      few = few;
-      shape = record {
-        kinds = s .kinds;
-        ys = λ j h. names-more n flagCeiling j (yAt numbers j) flags (s .ys j h);
-        zs = λ j h. names-more n flagCeiling j (zAt numbers j) flags (s .zs j h);
-      };
-    }
-
 pub usable-at : (numbers : List ℕ) (c j x : ℕ) → Readable numbers c → j < c → x ≡ 2 * tripletVariable (j + 1) → Usable (inUse c) (kindAt numbers j) x (yAt numbers j) (zAt numbers j)
 usable-at numbers c j x r h e =
+    let n : ℕ = r .0 in
+    let t : Triplets n numbers c (r .1) = r .2 in
     record {
-      kinds = r .shape .kinds j h;
+      kinds = t .shape .kinds j h;
       of-x = omega arith;
-      of-y = names-inside c j (yAt numbers j) h (r .shape .ys j h);
-      of-z = names-inside c j (zAt numbers j) h (r .shape .zs j h);
+      of-y = omega (arith, named-below n j (yAt numbers j) (t .flags) (t .shape .ys j h));
+      of-z = omega (arith, named-below n j (zAt numbers j) (t .flags) (t .shape .zs j h));
     }
 
 -- ---- a pass that has come to triplet j

@@ -13,6 +13,7 @@ use Rattle.ground.proofs.Cases.{either}
 use Rattle.notation.proofs.Shaped.{negation-half}
 use Rattle.relation.proofs.RelationLaws.{least-none, least-then, least-same}
 use Rattle.relation.proofs.ClassLaws.{relation-all, is-relation, true-leads}
+use Rattle.truth.specs.Connectives.{table, gate}
 use Rattle.steps.specs.Step.{Side, never, always, own-x, not-x, own-y, not-y, own-z, not-z, literalAt, HoldsStep}
 use Rattle.steps.specs.Table.{xNamed, yNamed, zNamed, pattern, patternOf, follows, contradictory, entry, NamesHold}
 use Rattle.steps.specs.contracts.Leading.{Patterned}
@@ -30,7 +31,7 @@ entry-below kind p d =
 
 -- where nothing is known, nothing follows
 pub entry-own : (kind : ℕ) → kind ≤ 1 → entry kind 104 ≡ 104
-unfolding entry follows pattern
+unfolding entry follows pattern gate table
 entry-own zero h = refl
 entry-own (suc zero) h = refl
 entry-own (suc (suc kind)) h = absurd (omega arith)

@@ -7,7 +7,8 @@ use mathlib.Core.Logic.{⊎-elim, _↔_}
 use native.Mathlib.Omega.{arith}
 use Rattle.ground.specs.Choice.{choose}
 use Rattle.relation.specs.Relation.{Rel, IsRelation}
-use Rattle.steps.specs.Step.{Side, never, always, own-x, own-y, own-z, Values, truthAt, connected, Satisfies, Obeys}
+use Rattle.truth.specs.Connectives.{gate}
+use Rattle.steps.specs.Step.{Side, never, always, own-x, own-y, own-z, Values, truthAt, Satisfies, Obeys}
 use Rattle.steps.specs.Table.{xNames, yNames, zNames, xNamed, yNamed, zNamed, pattern, patternOf, fits, both, each, follows, contradictory, entry}
 use Rattle.steps.proofs.Entries.{and-left, and-right}
 use Rattle.ground.proofs.Cases.{either}
@@ -53,19 +54,19 @@ pub follows-gives : (kind p : ℕ) (s t : Side) → follows kind p s t ≡ true
 unfolding follows
 follows-gives kind p s t e v a b =
     beq-eq (truthAt v s) (truthAt v t)
-    (if-gives (Bool·beq (v .x) (connected kind (v .y) (v .z)) && fits p v) (alike v s t)
-    (each-at (λ w. not (Bool·beq (w .x) (connected kind (w .y) (w .z)) && fits p w) || alike w s t) e v)
-    (and-both (Bool·beq (v .x) (connected kind (v .y) (v .z))) (fits p v) (eq-beq (v .x) (connected kind (v .y) (v .z)) a) b))
+    (if-gives (Bool·beq (v .x) (gate kind (v .y) (v .z)) && fits p v) (alike v s t)
+    (each-at (λ w. not (Bool·beq (w .x) (gate kind (w .y) (w .z)) && fits p w) || alike w s t) e v)
+    (and-both (Bool·beq (v .x) (gate kind (v .y) (v .z))) (fits p v) (eq-beq (v .x) (gate kind (v .y) (v .z)) a) b))
 
 pub gives-follows : (kind p : ℕ) (s t : Side)
     → ((v : Values) → Satisfies kind v → fits p v ≡ true → truthAt v s ≡ truthAt v t) → follows kind p s t ≡ true
 unfolding follows
 gives-follows kind p s t h =
-    each-all (λ w. not (Bool·beq (w .x) (connected kind (w .y) (w .z)) && fits p w) || alike w s t)
-    (λ v. gives-if (Bool·beq (v .x) (connected kind (v .y) (v .z)) && fits p v) (alike v s t)
+    each-all (λ w. not (Bool·beq (w .x) (gate kind (w .y) (w .z)) && fits p w) || alike w s t)
+    (λ v. gives-if (Bool·beq (v .x) (gate kind (v .y) (v .z)) && fits p v) (alike v s t)
     (λ e. eq-beq (truthAt v s) (truthAt v t)
-    (h v (beq-eq (v .x) (connected kind (v .y) (v .z)) (and-left (Bool·beq (v .x) (connected kind (v .y) (v .z))) (fits p v) e))
-    (and-right (Bool·beq (v .x) (connected kind (v .y) (v .z))) (fits p v) e))))
+    (h v (beq-eq (v .x) (gate kind (v .y) (v .z)) (and-left (Bool·beq (v .x) (gate kind (v .y) (v .z))) (fits p v) e))
+    (and-right (Bool·beq (v .x) (gate kind (v .y) (v .z))) (fits p v) e))))
 
 pub follows-closed : (kind p : ℕ) → Closed (follows kind p)
 follows-closed kind p =

@@ -1,6 +1,6 @@
 -- What a step makes of a relation, and a relation that no step enlarges.
-use Prim.Native.Nat.{ℕ, _+_, _*_}
-use mathlib.Core.List.{List, [], _∷_}
+use Prim.Native.Nat.{ℕ}
+use mathlib.Core.List.{List}
 use Rattle.notation.specs.Triplets.{Triplet, Each}
 use Rattle.relation.specs.Relation.{Rel}
 use Rattle.relation.specs.Least.{Least}

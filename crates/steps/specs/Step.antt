@@ -1,8 +1,9 @@
 -- What a step on a triplet (x, y, z) adds to a relation.
-use Prim.Native.Nat.{ℕ, zero, suc}
+use Prim.Native.Nat.{ℕ}
 use mathlib.Core.Path.{_≡_}
-use mathlib.Core.Bool.{Bool, true, false, not, Bool·beq, _||_}
+use mathlib.Core.Bool.{Bool, true, false, not}
 use Rattle.notation.specs.Triplets.{negation}
+use Rattle.truth.specs.Connectives.{gate}
 use Rattle.relation.specs.Relation.{Rel}
 
 -- true, x, y, z and their negations
@@ -44,14 +45,9 @@ truthAt v not-y = not (v .y)
 truthAt v own-z = v .z
 truthAt v not-z = not (v .z)
 
--- what a triplet says that x is: kind 0 y implies z, kind 1 y same as z
-abbrev pub connected : ℕ → Bool → Bool → Bool
-connected zero y z = not y || z
-connected (suc k) y z = Bool·beq y z
-
 -- a truth value that satisfies a triplet of that kind
 abbrev pub Satisfies : ℕ → Values → Type 0
-Satisfies kind v = v .x ≡ connected kind (v .y) (v .z)
+Satisfies kind v = v .x ≡ gate kind (v .y) (v .z)
 
 -- a truth value that obeys the relation: sides that it holds equal have equal truth
 abbrev pub Obeys : Rel → ℕ → ℕ → ℕ → Values → Type 0

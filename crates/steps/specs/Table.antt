@@ -5,8 +5,9 @@ use mathlib.Core.Bool.{Bool, true, false, not, Bool·beq, _&&_, _||_}
 use mathlib.Core.List.{List, [], _∷_}
 use lib.ListN.{getD}
 use Rattle.ground.specs.Choice.{choose}
+use Rattle.truth.specs.Connectives.{gate}
 use Rattle.relation.specs.Relation.{Rel}
-use Rattle.steps.specs.Step.{Side, never, always, own-x, not-x, own-y, not-y, own-z, Values, literalAt, truthAt, connected}
+use Rattle.steps.specs.Step.{Side, never, always, own-x, not-x, own-y, not-y, own-z, Values, literalAt, truthAt}
 
 -- what x, y and z can be named as, the last its own
 abbrev pub xNames : List Side
@@ -58,7 +59,7 @@ each f = both (λ a. both (λ b. both (λ c. f (record { x = a; y = b; z = c }))
 -- s = t holds in each truth value that satisfies both the triplet and pattern p
 unfoldable pub follows : ℕ → ℕ → Side → Side → Bool
 follows kind p s t =
-    each (λ v. not (Bool·beq (v .x) (connected kind (v .y) (v .z)) && fits p v) || Bool·beq (truthAt v s) (truthAt v t))
+    each (λ v. not (Bool·beq (v .x) (gate kind (v .y) (v .z)) && fits p v) || Bool·beq (truthAt v s) (truthAt v t))
 
 -- the number for contradiction
 abbrev pub contradictory : ℕ

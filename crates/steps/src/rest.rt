@@ -2,6 +2,7 @@
 use crate::step::step;
 use crate::table::ENTRIES;
 use crate::table::table;
+use notation::ceilings::FLAGS;
 use notation::ceilings::VARIABLES;
 use relation::ranking::size_of;
 ghost use Prim.Native.Nat.{_+_, _*_, _<_};
@@ -9,7 +10,7 @@ ghost use Rattle.relation.specs.contracts.Classes.{Classes};
 ghost use Rattle.steps.specs.contracts.Resting.{Entries, inUse, Passed, Rested, Readable};
 
 // The variable of the first triplet.
-pub const FIRST: usize = 25;
+pub const FIRST: usize = 1 + FLAGS;
 
 // A step on each triplet in turn. A contradictory relation holds all: it ends the pass.
 fn pass(of: &mut [u16; VARIABLES], table: &[u8; ENTRIES], triplets: &[u16], count: usize)

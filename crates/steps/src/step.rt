@@ -15,6 +15,9 @@ ghost use Rattle.steps.specs.Table.{zNames};
 ghost use Rattle.steps.specs.contracts.Leading.{xPlace, yPlace, zPlace, Patterned};
 ghost use Rattle.steps.specs.contracts.Resting.{Entries, Usable, Named, Stepped};
 
+// The entry for contradiction.
+const CONTRADICTORY: usize = 255;
+
 // The name of x: false, true or its own.
 fn x_place(a: u16) -> u16
     ensures { λ r. ⌜ r ≡ xPlace a ⌝ }
@@ -160,7 +163,7 @@ pub fn step(
     if next == before {
         return;
     }
-    if next == 255 {
+    if next == CONTRADICTORY {
         join(of, size, 0, 1);
         return;
     }

@@ -3,7 +3,6 @@ use evaluate::Evaluation;
 use evaluate::evaluate;
 use gaps::writing::Found;
 use guard_check::check::check;
-use guard_check::verdicts::Verdict;
 use list::Listing;
 use list::list;
 use notation::ceilings::TRIPLETS_ROOM;
@@ -14,6 +13,7 @@ use reading::name::part;
 use reading::parse::Guard;
 use reading::parse::Parsed;
 use reading::read::read;
+use saturation::verdict::Verdict;
 
 fn say(bytes: &[u8]) {
     io::write_all(1, bytes);

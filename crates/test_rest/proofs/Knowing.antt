@@ -2,7 +2,7 @@
 use Prim.Native.Nat.{ℕ, _+_, _*_, _/_, _≤_, _<_}
 use mathlib.Core.Path.{_≡_}
 use mathlib.Core.List.{List}
-use mathlib.Core.Logic.{_⊎_, inl, inr, ⊎-elim}
+use mathlib.Core.Logic.{inl, inr, ⊎-elim}
 use native.Mathlib.Omega.{arith}
 use lib.ListN.{length}
 use Rattle.notation.specs.Ceilings.{flagCeiling, connectiveCeiling}
@@ -31,13 +31,17 @@ named j l h =
     (lt-or-ge (l / 2) (flagCeiling + 1))
 
 pub readable : (xs : List ℕ) (c : ℕ) → c ≤ connectiveCeiling → 3 * c ≤ length xs → KnownBelow xs c → Readable xs c
-readable xs c few long all =
-    record {
-      long = long;
-      few = few;
-      shape = record {
-        kinds = λ j h. all j h .kinds;
-        ys = λ j h. named j (yAt xs j) (all j h .of-y);
-        zs = λ j h. named j (zAt xs j) (all j h .of-z);
-      };
-    }
+readable xs c few long all = (
+  flagCeiling,
+  0,
+  record {
+    flags = omega arith;
+    count = (few, long);
+    shape = record {
+      kinds = λ j h. all j h .kinds;
+      ys = λ j h. named j (yAt xs j) (all j h .of-y);
+      zs = λ j h. named j (zAt xs j) (all j h .of-z);
+    };
+    named = inl (omega arith);
+  },
+)

@@ -20,7 +20,6 @@ use steps::rest::rest;
 ghost use mathlib.Core.Path.{_≡_};
 ghost use mathlib.Core.Bool.{true};
 ghost use Prim.Native.Nat.{_+_, _*_, _/_, _<_, _≤_};
-ghost use lib.ListN.{length};
 ghost use Rattle.relation.specs.contracts.Keeping.{Lower};
 ghost use Rattle.steps.specs.contracts.Resting.{Readable};
 ghost use Rattle.test_rest.specs.contracts.Known.{Known};

@@ -3,6 +3,7 @@
 // A triplet's variable is its place, so another order renames variables. The array has the triplets' 24 numbers, and after them,
 // for each literal of the list as it was made, what it is called now.
 use crate::draw::draw;
+use steps::rest::FIRST;
 
 pub const NUMBERS: usize = 56;
 
@@ -15,7 +16,7 @@ fn named(literal: usize) -> u16 {
     if l < 10 {
         return l as u16;
     }
-    (l + 40) as u16
+    (l + 2 * (FIRST - 5)) as u16
 }
 
 // The number at a place: a kind, an operand that is known before its triplet, or the name of a literal.
@@ -73,7 +74,7 @@ fn exchange(list: &mut [u16; NUMBERS], count: usize, place: usize) {
     if at + 1 >= count {
         return;
     }
-    let v = (25 + at) as u16;
+    let v = (FIRST + at) as u16;
     if list[3 * at + 4] / 2 == v {
         return;
     }

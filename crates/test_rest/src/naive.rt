@@ -2,6 +2,7 @@
 // nothing is new. It counts variables without gaps: true, flags 1 to 4, then the triplets from 5 on.
 use crate::draw::draw;
 use crate::lists::NUMBERS;
+use steps::rest::FIRST;
 
 // A byte for each pair of 32 literals: 1 where it is in the set.
 pub const PAIRS: usize = 1024;
@@ -161,12 +162,13 @@ fn step(pairs: &mut [u8; PAIRS], kind: u16, x: usize, y: usize, z: usize) -> boo
     news
 }
 
-// The literal as it is counted here: triplets are numbered from variable 25 on in a list, and from 5 on here.
+// The literal as it is counted here: triplets are numbered from the variable after the flags on in a list, and from 5 on here.
 fn counted(l: u16) -> usize {
-    if l < 50 {
-        return l as usize;
+    let literal = l as usize;
+    if literal < 2 * FIRST {
+        return literal;
     }
-    (l - 40) as usize
+    literal - 2 * (FIRST - 5)
 }
 
 // A step on the triplet at a place of the list.

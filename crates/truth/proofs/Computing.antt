@@ -12,7 +12,8 @@ use Rattle.notation.specs.Ceilings.{flagCeiling}
 use Rattle.notation.specs.Triplets.{tripletVariable}
 use Rattle.notation.specs.contracts.Shape.{Names, Shape, kindAt, yAt, zAt}
 use Rattle.ground.specs.Bits.{bit}
-use Rattle.truth.specs.contracts.Computed.{literalValue, gate, computed, Valued}
+use Rattle.truth.specs.Connectives.{gate}
+use Rattle.truth.specs.contracts.Computed.{literalValue, computed, Valued}
 use Rattle.truth.proofs.Literals.{literal-agrees}
 
 module _ (n s : ℕ) (xs : List ℕ) where

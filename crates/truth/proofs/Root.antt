@@ -12,8 +12,9 @@ use Rattle.notation.specs.Guard.{Guard, flag, truth, negated, joined, connectiv
 use Rattle.notation.specs.Triplets.{Triplet, tripletVariable, tripletOf, literalOf, literal, triplets, numbers}
 use Rattle.notation.specs.contracts.Shape.{Shape, kindAt, yAt, zAt, FlagsWithin}
 use Rattle.notation.proofs.Shaped.{count-triplets}
-use Rattle.truth.specs.Value.{table, value}
-use Rattle.truth.specs.contracts.Computed.{literalValue, gate, computed, Valued}
+use Rattle.truth.specs.Connectives.{table, gate}
+use Rattle.truth.specs.Value.{value}
+use Rattle.truth.specs.contracts.Computed.{literalValue, computed, Valued}
 use Rattle.truth.proofs.Literals.{literal-even, literal-odd, literal-negation}
 use Rattle.truth.proofs.Computing.{valued}
 
@@ -43,12 +44,13 @@ holds-numbers (t ∷ ts) pre c e =
     let l : length (pre ++ more) ≡ 3 * suc c = rw length-append (omega arith) in
     (rw p₀ (getD-append-add pre rest 0 0), rw p₁ (getD-append-add pre rest 1 0), rw p₂ (getD-append-add pre rest 2 0), rw append-assoc at (holds-numbers ts (pre ++ more) (suc c) l))
 
-or-table : (a b : Bool) → table implies (not a) b ≡ table or a b
+-- a disjunction and a conjunction by an implication
+pub or-table : (a b : Bool) → table implies (not a) b ≡ table or a b
 unfolding table
 or-table true b = refl
 or-table false b = refl
 
-and-table : (a b : Bool) → not (table implies a (not b)) ≡ table and a b
+pub and-table : (a b : Bool) → not (table implies a (not b)) ≡ table and a b
 unfolding table
 and-table true b = Bool·not-not b
 and-table false b = refl

@@ -14,7 +14,8 @@ use Rattle.notation.specs.Triplets.{tripletVariable}
 use Rattle.notation.specs.contracts.Shape.{kindAt, yAt, zAt}
 use Rattle.ground.proofs.Cases.{split-eq, lt-or-ge}
 use Rattle.ground.specs.Bits.{bit}
-use Rattle.truth.specs.contracts.Computed.{literalValue, gate, computed, Valued, rootValue, Triplets}
+use Rattle.truth.specs.Connectives.{gate}
+use Rattle.truth.specs.contracts.Computed.{literalValue, computed, Valued, rootValue, Triplets}
 use Rattle.truth.specs.contracts.Values.{valueIn, FlagsSet}
 use Rattle.truth.proofs.Computing.{valued, named-below, valued-more, valued-unique}
 

@@ -3,26 +3,19 @@ use Prim.Native.Nat.{ℕ, _+_, _*_, _/_, _≤_, _<_}
 use mathlib.Core.Path.{_≡_, sym, ap, _∙_}
 use mathlib.Core.List.{List}
 use native.Mathlib.Omega.{arith}
-use lib.ListN.{length, take, getD}
+use lib.ListN.{length, getD}
 use lib.Seq.{getD-take}
-use Rattle.notation.specs.Ceilings.{flagCeiling, connectiveCeiling}
-use Rattle.notation.specs.Guard.{Guard, connectives}
-use Rattle.notation.specs.Triplets.{literal, triplets, numbers}
-use Rattle.notation.specs.contracts.Shape.{Names, Shape, FlagsWithin}
+use Rattle.notation.specs.Ceilings.{connectiveCeiling}
+use Rattle.notation.specs.Guard.{Guard}
+use Rattle.notation.specs.Triplets.{triplets, numbers}
+use Rattle.notation.specs.contracts.Shape.{Names, Shape}
 use Rattle.notation.proofs.Shaped.{shaped, root-named}
 use Rattle.truth.specs.Value.{value}
 use Rattle.truth.specs.contracts.Computed.{computed, rootValue, Triplets}
+use Rattle.truth.specs.contracts.Written.{Begins}
 use Rattle.truth.proofs.Literals.{literal-agrees}
 use Rattle.truth.proofs.Computing.{computed-same}
 use Rattle.truth.proofs.Root.{root-value}
-
--- the numbers xs begin with the c triplets of a guard of n flags, and root is its literal
-pub record Begins (n c root : ℕ) (g : Guard) (xs : List ℕ) : Type 0 where
-  pub few : n ≤ flagCeiling
-  pub within : FlagsWithin n g
-  pub count : c ≡ connectives g
-  pub literal : root ≡ literal 0 g
-  pub written : take (3 * c) xs ≡ numbers (triplets 0 g)
 
 module _ (n c root : ℕ) (g : Guard) (xs : List ℕ) (b : Begins n c root g xs) where
   agree : (k : ℕ) → k < 3 * c → getD xs k 0 ≡ getD (numbers (triplets 0 g)) k 0

@@ -1,2 +1,3 @@
+pub mod Connectives
 pub mod Value
 pub mod contracts

@@ -1,2 +1,4 @@
 pub mod Computed
 pub mod Values
+pub mod Words
+pub mod Written

@@ -6,7 +6,8 @@ ghost use Prim.Native.Nat.{_+_, _*_, _/_, _≤_, _<_};
 ghost use lib.ListN.{length};
 ghost use Rattle.notation.specs.Ceilings.{flagCeiling};
 ghost use Rattle.notation.specs.contracts.Shape.{kindAt, yAt, zAt};
-ghost use Rattle.truth.specs.contracts.Computed.{literalValue, gate, rootValue, Triplets};
+ghost use Rattle.truth.specs.Connectives.{gate};
+ghost use Rattle.truth.specs.contracts.Computed.{literalValue, rootValue, Triplets};
 ghost use Rattle.truth.specs.contracts.Values.{valueIn, FlagsSet};
 
 // The value of a literal, where the variables have these values.

@@ -15,13 +15,13 @@ use Rattle.ground.proofs.Cases.{either, never}
 use Rattle.notation.proofs.Shaped.{negation-half}
 use Rattle.relation.specs.Relation.{Rel, IsRelation}
 use Rattle.saturation.specs.Saturation.{taking, SaturationOf, Flags}
-use Rattle.saturation.specs.Answer as answer
+use Rattle.saturation.specs.Answer.{Answer, Checked}
 use Rattle.saturation.proofs.Taking.{above-taking, taking-holds, above-taken, taken-above}
-use Rattle.guard_check.specs.Check.{depthCeiling, asked, GuardSays, ReadingSays, CheckSays}
-use Rattle.guard_check.specs.declared.verdicts.Verdict.{Verdict}
-use Rattle.guard_check.specs.declared.verdicts.Verdict.the-variants.{Refused}
+use Rattle.guard_check.specs.Check.{depthCeiling, asked, ReadingSays, CheckSays}
+use Rattle.saturation.specs.declared.verdict.Verdict.{Verdict}
+use Rattle.saturation.specs.declared.verdict.Verdict.the-variants.{Covered, Gap, Undecided, Refused}
 use Rattle.guard_check.proofs.Checking.{asks-text}
-use Rattle.verdict_laws.specs.Trial.{Started, Tried, as-false, as-true, Through, no-flag, next-flag, Fixes, Outline, is-covered, is-gap, is-undecided, OutlineSays, verdictFor}
+use Rattle.verdict_laws.specs.Trial.{Started, Tried, as-false, as-true, Through, no-flag, next-flag, Fixes, Outline, is-covered, is-gap, is-undecided, OutlineSays}
 use Rattle.verdict_laws.specs.Together.{IsRead}
 use Rattle.verdict_laws.proofs.Trials.{through-reaches, outline-answer, outline-same}
 use Rattle.verdict_laws.proofs.Services.{read-short}
@@ -81,20 +81,20 @@ module _ (M n : ℕ) (ts : List Triplet) (low : Each (Low M) 0 ts) (flags : n < 
 
 -- a relation to start from, and one that the trial comes to, give an answer
 answered : (D : ℕ → Type 0) (ts : List Triplet) (root k n : ℕ) (S T : Rel) (s : ℕ) → Started D ts root k S → Through D ts k S n T → Fixes n T s
-    → (v : answer.Verdict) × Outline D ts root k n v
+    → (v : Verdict) × Outline D ts root k n v
 answered D ts root k n S T s start through fixes =
     ⊎-elim
-    (λ (e : S 0 1 ≡ true). (answer.covered, is-covered start e))
+    (λ (e : S 0 1 ≡ true). (Covered, is-covered start e))
     (λ (e : S 0 1 ≡ false).
     ⊎-elim
-    (λ (d : T 0 1 ≡ true). (answer.undecided, is-undecided start (λ c. never (S 0 1) c e) through d))
-    (λ (d : T 0 1 ≡ false). (answer.gap s, is-gap start (λ c. never (S 0 1) c e) through (λ c. never (T 0 1) c d) fixes))
+    (λ (d : T 0 1 ≡ true). (Undecided, is-undecided start (λ c. never (S 0 1) c e) through d))
+    (λ (d : T 0 1 ≡ false). (Gap s, is-gap start (λ c. never (S 0 1) c e) through (λ c. never (T 0 1) c d) fixes))
     (either (T 0 1)))
     (either (S 0 1))
 
 module _ (ts : List Triplet) (root k n : ℕ) where
   -- the outline's trial has an answer
-  pub outline-exists : (v : answer.Verdict) × Outline (Flags n) ts root k n v
+  pub outline-exists : (v : Verdict) × Outline (Flags n) ts root k n v
   outline-exists =
       let b : (M : ℕ) × Each (Low M) 0 ts = bound 0 ts in
       let M : ℕ = b .0 + (n + root / 2 + 1) in
@@ -105,39 +105,34 @@ module _ (ts : List Triplet) (root k n : ℕ) where
       answered (Flags n) ts root k n (s .0) (t .0) (g .0) (s .1) (t .1) (g .1 .fixes)
 
   -- the trial and check's statement say the same
-  pub outline-says : (v : answer.Verdict) → Outline (Flags n) ts root k n v ↔ answer.Answer (Flags n) ts root k n v
+  pub outline-says : (v : Verdict) → Outline (Flags n) ts root k n v ↔ Answer (Flags n) ts root k n v
   outline-says v = (
     outline-answer (Flags n) ts root k n v,
     λ a.
-        subst (λ (w : answer.Verdict). Outline (Flags n) ts root k n w) (sym (outline-same (Flags n) ts root k n v (outline-exists .0) a (outline-exists .1)))
+        subst (λ (w : Verdict). Outline (Flags n) ts root k n w) (sym (outline-same (Flags n) ts root k n v (outline-exists .0) a (outline-exists .1)))
         (outline-exists .1),
   )
 
 -- ---- of texts
-guard-says : (n : ℕ) (g : Guard) (k : ℕ) (v : answer.Verdict) → GuardSays n g k (verdictFor v) ↔ answer.Checked n g k v
-guard-says n g k answer.covered = (λ a. a, λ a. a)
-guard-says n g k (answer.gap s) = (λ a. a, λ a. a)
-guard-says n g k answer.undecided = (λ a. a, λ a. a)
-
 reading-answers : (x : Reading) (k : ℕ) → (r : Verdict) × ReadingSays x k r
 reading-answers (refusal number p) k = (Refused (record { number = number; place = p }), refl)
 reading-answers (guard g u) k =
     let o = outline-exists (triplets 0 g) (literal 0 g) k (length u) in
-    (verdictFor (o .0), guard-says (length u) g k (o .0) .1 (outline-says (triplets 0 g) (literal 0 g) k (length u) (o .0) .0 (o .1)))
+    (o .0, outline-says (triplets 0 g) (literal 0 g) k (length u) (o .0) .0 (o .1))
 
 -- check has an answer for every text and depth
 pub check-answers : (text : List ℕ) (depth : ℕ) → (r : Verdict) × CheckSays text depth r
 check-answers text depth = reading-answers (asked text depth) depth
 
 -- for a text that is read, at a depth up to its ceiling, it is what the outline's trial answers on the triplets of its guard
-pub check-outline : (text : List ℕ) (read : IsRead text) (depth : ℕ) → depth ≤ depthCeiling → (v : answer.Verdict)
-    → CheckSays text depth (verdictFor v) ↔ OutlineSays (length (read .flags)) (read .tree) depth v
+pub check-outline : (text : List ℕ) (read : IsRead text) (depth : ℕ) → depth ≤ depthCeiling → (v : Verdict)
+    → CheckSays text depth v ↔ OutlineSays (length (read .flags)) (read .tree) depth v
 check-outline text read depth h v =
     let n : ℕ = length (read .flags) in
     let g : Guard = read .tree in
     let short : length text ≤ textCeiling = read-short text g (read .flags) (read .says) in
     let e : asked text depth ≡ guard g (read .flags) = asks-text text depth short h ∙ read .says in
-    let same : OutlineSays n g depth v ↔ answer.Checked n g depth v = outline-says (triplets 0 g) (literal 0 g) depth n v in (
-      λ a. same .1 (guard-says n g depth v .0 (subst (λ (x : Reading). ReadingSays x depth (verdictFor v)) e a)),
-      λ a. subst (λ (x : Reading). ReadingSays x depth (verdictFor v)) (sym e) (guard-says n g depth v .1 (same .0 a)),
+    let same : OutlineSays n g depth v ↔ Checked n g depth v = outline-says (triplets 0 g) (literal 0 g) depth n v in (
+      λ a. same .1 (subst (λ (x : Reading). ReadingSays x depth v) e a),
+      λ a. subst (λ (x : Reading). ReadingSays x depth v) (sym e) (same .0 a),
     )

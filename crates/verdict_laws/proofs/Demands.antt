@@ -2,7 +2,7 @@
 use Prim.Native.Nat.{ℕ, zero, suc, _+_, _-_, _^_, _≤_, _<_}
 use mathlib.Core.Path.{_≡_, refl, subst, _∙_}
 use mathlib.Core.Bool.{Bool, true, false}
-use mathlib.Core.List.{List, [], _∷_}
+use mathlib.Core.List.{List, _∷_}
 use mathlib.Core.Logic.{⊎-elim}
 use native.Mathlib.Omega.{arith}
 use native.Mathlib.Nat.{sub-zero}
@@ -10,17 +10,18 @@ use lib.ListN.{length}
 use Rattle.notation.specs.Ceilings.{textCeiling}
 use Rattle.notation.specs.Walk.{Flag}
 use Rattle.notation.specs.Guard.{Guard}
-use Rattle.notation.specs.Reading.{Reading, refusal, guard, reading}
+use Rattle.notation.specs.Reading.{Reading, guard, reading}
 use Rattle.ground.proofs.Cases.{split-eq, lt-or-ge}
 use Rattle.notation.proofs.Accepted.{reading-accepted}
 use Rattle.truth.specs.Value.{value}
 use Rattle.gaps.specs.Gaps.{falseFrom, gapsFrom}
 use Rattle.gaps.proofs.Ascending.{false-not, false-one}
-use Rattle.saturation.specs.Answer.{Proper}
+use Rattle.truth.specs.contracts.Written.{Proper}
+use Rattle.saturation.specs.Answer.{Checked}
 use Rattle.verdict_laws.proofs.Guards.{checked-covered, checked-gap, checked-decided}
-use Rattle.guard_check.specs.Check.{depthCeiling, GuardSays, ReadingSays, CheckSays}
-use Rattle.guard_check.specs.declared.verdicts.Verdict.{Verdict}
-use Rattle.guard_check.specs.declared.verdicts.Verdict.the-variants.{Covered, Gap, Undecided, Refused}
+use Rattle.guard_check.specs.Check.{depthCeiling, ReadingSays, CheckSays}
+use Rattle.saturation.specs.declared.verdict.Verdict.{Verdict}
+use Rattle.saturation.specs.declared.verdict.Verdict.the-variants.{Covered, Gap, Undecided, Refused}
 use Rattle.guard_check.proofs.Checking.{asks-long, asks-deep, asks-text}
 
 -- a number at which v is false, and below which it is true, is the first of the list
@@ -40,7 +41,7 @@ module _ (text : List ℕ) (g : Guard) (u : List Flag) (says : reading text ≡ 
   proper = record { few = reading-accepted text g u says .few; within = reading-accepted text g u says .within }
 
   -- what is said of the text and is no refusal is said of its guard
-  on-guard : (r : Verdict) → CheckSays text depth r → ((k p : ℕ) → r ≡ Refused (record { number = k; place = p }) → ⊥) → GuardSays (length u) g depth r
+  on-guard : (r : Verdict) → CheckSays text depth r → ((k p : ℕ) → r ≡ Refused (record { number = k; place = p }) → ⊥) → Checked (length u) g depth r
   on-guard r h n =
       ⊎-elim
       (λ (a : textCeiling < length text). absurd (n 1 textCeiling (subst (λ (x : Reading). ReadingSays x depth r) (asks-long text depth a) h)))

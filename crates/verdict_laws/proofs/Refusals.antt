@@ -16,8 +16,8 @@ use Rattle.list.specs.declared.Listing.the-variants as listing
 use Rattle.list.proofs.Listed.{lists-refusal}
 use Rattle.list.proofs.Complete.{lists-unique}
 use Rattle.guard_check.specs.Check.{depthCeiling, asked, ReadingSays, CheckSays}
-use Rattle.guard_check.specs.declared.verdicts.Verdict.{Verdict}
-use Rattle.guard_check.specs.declared.verdicts.Verdict.the-variants.{Refused}
+use Rattle.saturation.specs.declared.verdict.Verdict.{Verdict}
+use Rattle.saturation.specs.declared.verdict.Verdict.the-variants.{Refused}
 use Rattle.guard_check.proofs.Checking.{asks-long, refused-too}
 use Rattle.guard_check.proofs.Unique.{check-unique}
 use Rattle.verdict_laws.specs.Together.{RefusedTogether}

@@ -30,11 +30,11 @@ use Rattle.list.specs.Listed.{listed, filled, Lists, Among, Ascends}
 use Rattle.list.specs.declared.Listing.{Listing}
 use Rattle.list.specs.declared.Listing.the-variants as listing
 use Rattle.list.proofs.Complete.{gaps-exact, gaps-ascend, placed-written, found-all-or-more}
-use Rattle.saturation.specs.Answer.{Proper}
+use Rattle.truth.specs.contracts.Written.{Proper}
 use Rattle.verdict_laws.proofs.Guards.{checked-full, checked-full-gap}
 use Rattle.guard_check.specs.Check.{depthCeiling, ReadingSays, CheckSays}
-use Rattle.guard_check.specs.declared.verdicts.Verdict.{Verdict}
-use Rattle.guard_check.specs.declared.verdicts.Verdict.the-variants.{Covered, Gap, Undecided, Refused}
+use Rattle.saturation.specs.declared.verdict.Verdict.{Verdict}
+use Rattle.saturation.specs.declared.verdict.Verdict.the-variants.{Covered, Gap, Undecided, Refused}
 use Rattle.guard_check.proofs.Checking.{asks-long, asks-deep, asks-text, guard-too}
 use Rattle.verdict_laws.proofs.Demands.{covered-true, gap-first}
 use Rattle.verdict_laws.specs.Together.{IsRead, NoRefusal, GapTogether, CoveredTogether, NoneTogether, NextTogether}

@@ -7,11 +7,12 @@ use native.Mathlib.Omega.{arith}
 use Rattle.notation.specs.Triplets.{Triplet, negation}
 use Rattle.relation.specs.Relation.{Rel, IsRelation}
 use Rattle.saturation.specs.Saturation.{taken, SaturationOf}
-use Rattle.saturation.specs.Answer.{Verdict, flagAs, flagsAs, Refuted, Trial, Answer}
+use Rattle.saturation.specs.Answer.{flagAs, flagsAs, Refuted, Trial, Answer}
 use Rattle.saturation.proofs.Taking.{HoldsAll, above-taken, taken-above}
 use Rattle.saturation.proofs.Fixed.{negation-even}
 use Rattle.saturation.proofs.Splits.{refuted-held, trial-next}
 use Rattle.saturation.proofs.Confirmed.{trial-below}
+use Rattle.saturation.specs.declared.verdict.Verdict.{Verdict}
 use Rattle.saturation.proofs.Verdicts.{answer-unique}
 use Rattle.verdict_laws.specs.Trial.{Contradictory, Started, Added, Tried, as-false, as-true, Through, no-flag, next-flag, Fixes, Outline, is-covered, is-gap, is-undecided, Reached}
 

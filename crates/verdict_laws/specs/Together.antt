@@ -19,8 +19,8 @@ use Rattle.list.specs.Listed.{Lists}
 use Rattle.list.specs.declared.Listing.{Listing}
 use Rattle.list.specs.declared.Listing.the-variants as listing
 use Rattle.guard_check.specs.Check.{depthCeiling, CheckSays}
-use Rattle.guard_check.specs.declared.verdicts.Verdict.{Verdict}
-use Rattle.guard_check.specs.declared.verdicts.Verdict.the-variants.{Covered, Gap, Undecided, Refused}
+use Rattle.saturation.specs.declared.verdict.Verdict.{Verdict}
+use Rattle.saturation.specs.declared.verdict.Verdict.the-variants.{Covered, Gap, Undecided, Refused}
 
 -- the text is read: it is a guard with these flags, and its states are the numbers below 2 ^ length flags
 pub record IsRead (text : List ℕ) : Type 0 where

@@ -8,9 +8,9 @@ use Rattle.notation.specs.Guard.{Guard}
 use Rattle.notation.specs.Triplets.{Triplet, negation, literal, triplets}
 use Rattle.relation.specs.Relation.{Rel, Within}
 use Rattle.saturation.specs.Saturation.{taking, taken, SaturationOf, Flags}
-use Rattle.saturation.specs.Answer.{Verdict, covered, gap, undecided, flagAs, flagsAs, Refuted, Trial}
-use Rattle.guard_check.specs.declared.verdicts.Verdict as verdicts
-use Rattle.guard_check.specs.declared.verdicts.Verdict.the-variants as verdict
+use Rattle.saturation.specs.Answer.{flagAs, flagsAs, Refuted, Trial}
+use Rattle.saturation.specs.declared.verdict.Verdict.{Verdict}
+use Rattle.saturation.specs.declared.verdict.Verdict.the-variants.{Covered, Gap, Undecided}
 
 -- a relation is contradictory where it holds true = false
 abbrev pub Contradictory : Rel → Type 0
@@ -43,13 +43,13 @@ Fixes n T s = (s < 2 ^ n) × Within (taken (flagsAs n s)) T
 -- the outline's answer for n flags
 pub data Outline (D : ℕ → Type 0) (ts : List Triplet) (root k n : ℕ) : Verdict → Type 0 where
   -- contradictory: covered
-  is-covered : {S : Rel} → Started D ts root k S → Contradictory S → Outline D ts root k n covered
+  is-covered : {S : Rel} → Started D ts root k S → Contradictory S → Outline D ts root k n Covered
   -- else go through flags 1 to n: if the last relation is not contradictory the state it fixes is the gap
   is-gap : {S T : Rel} {s : ℕ} → Started D ts root k S → (Contradictory S → ⊥)
-      → Through D ts k S n T → (Contradictory T → ⊥) → Fixes n T s → Outline D ts root k n (gap s)
+      → Through D ts k S n T → (Contradictory T → ⊥) → Fixes n T s → Outline D ts root k n (Gap s)
   -- otherwise undecided
   is-undecided : {S T : Rel} → Started D ts root k S → (Contradictory S → ⊥)
-      → Through D ts k S n T → Contradictory T → Outline D ts root k n undecided
+      → Through D ts k S n T → Contradictory T → Outline D ts root k n Undecided
 
 -- the state s of flags 1 to i is the one that `Trial` names; T fixes it, and is contradictory exactly where it is refuted
 pub record Reached (D : ℕ → Type 0) (ts : List Triplet) (root k i : ℕ) (T : Rel) (s : ℕ) : Type 0 where
@@ -60,9 +60,3 @@ pub record Reached (D : ℕ → Type 0) (ts : List Triplet) (root k i : ℕ) (T 
 -- the outline's answer for a guard of n flags at depth k: its triplets, its root literal, and splits on its flags
 abbrev pub OutlineSays : ℕ → Guard → ℕ → Verdict → Type 0
 OutlineSays n g k v = Outline (Flags n) (triplets 0 g) (literal 0 g) k n v
-
--- the verdict on a text that an answer for its guard is
-abbrev pub verdictFor : Verdict → verdicts.Verdict
-verdictFor covered = verdict.Covered
-verdictFor (gap s) = verdict.Gap s
-verdictFor undecided = verdict.Undecided

@@ -9,7 +9,8 @@ use Rattle.ground.specs.Choice.{choose}
 use Rattle.notation.specs.Triplets.{tripletVariable, negation}
 use Rattle.notation.specs.contracts.Shape.{Names, Shape, kindAt, yAt, zAt}
 use Rattle.ground.specs.Bits.{bit}
-use Rattle.truth.specs.contracts.Computed.{literalValue, gate, computed}
+use Rattle.truth.specs.Connectives.{gate}
+use Rattle.truth.specs.contracts.Computed.{literalValue, computed}
 
 -- the literal r, of true or of an operand's variable, always has the value of a triplet of this kind of y and z
 pub record Stands (kind y z r : ℕ) : Type 0 where

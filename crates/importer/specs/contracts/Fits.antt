@@ -1,5 +1,5 @@
 -- Answers within their ceilings: a packed number has room for each of them.
-use Prim.Native.Nat.{ℕ, _^_, _≤_, _<_}
+use Prim.Native.Nat.{_^_, _≤_, _<_}
 use Rattle.notation.specs.Ceilings.{textCeiling, codeCeiling, flagCeiling, connectiveCeiling}
 use Rattle.notation.specs.Triplets.{literalCeiling}
 use Rattle.notation.specs.declared.refusal.Refusal.{Refusal}
@@ -15,8 +15,8 @@ use Rattle.gaps.specs.declared.writing.Found.{Found}
 use Rattle.gaps.specs.declared.writing.Found.the-variants as found
 use Rattle.list.specs.declared.Listing.{Listing}
 use Rattle.list.specs.declared.Listing.the-variants as listing
-use Rattle.guard_check.specs.declared.verdicts.Verdict.{Verdict}
-use Rattle.guard_check.specs.declared.verdicts.Verdict.the-variants as verdict
+use Rattle.saturation.specs.declared.verdict.Verdict.{Verdict}
+use Rattle.saturation.specs.declared.verdict.Verdict.the-variants as verdict
 
 -- a number of the table, and a place within the longest text
 pub record RefusalFits (f : Refusal) : Type 0 where

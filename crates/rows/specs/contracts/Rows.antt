@@ -9,7 +9,8 @@ use Rattle.ground.specs.Choice.{choose}
 use Rattle.notation.specs.Triplets.{tripletVariable}
 use Rattle.notation.specs.contracts.Shape.{kindAt, yAt, zAt}
 use Rattle.ground.specs.Bits.{bit}
-use Rattle.truth.specs.contracts.Computed.{literalValue, gate, Valued}
+use Rattle.truth.specs.Connectives.{gate}
+use Rattle.truth.specs.contracts.Computed.{literalValue, Valued}
 
 -- flags whose states one word holds
 abbrev pub wordFlags : ℕ

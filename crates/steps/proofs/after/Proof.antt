@@ -1,6 +1,7 @@
 -- `steps::after` meets its contract: each of the 210 entries, as the code has them, passes the rule's test.
 use mathlib.Core.Path.{refl}
 use borrow.Author.Needs.{needs}
+use Rattle.truth.specs.Connectives.{table as truth-table, gate}
 use Rattle.steps.specs.Table.{entry, follows, pattern}
 use Rattle.steps.proofs.Rule.{right, table}
 use Rattle.steps.proofs.after.Statement.{statement}
@@ -18,7 +19,7 @@ array-read-result : tie.Need-array-read-result
 array-read-result c = search needs
 
 returns : tie.Need-returns
-unfolding right entry follows pattern
+unfolding right entry follows pattern gate truth-table
 returns c =
     let entries = (lts.m1 reads.Pre reads.Post (c .args) (c .blocks)) .1 .1 .1 .0 in
     table entries refl refl (c .args .kind) (c .args .pattern) (search needs) (search needs)

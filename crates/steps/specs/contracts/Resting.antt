@@ -4,9 +4,10 @@ use mathlib.Core.Path.{_≡_}
 use mathlib.Core.List.{List, [], _∷_, _++_}
 use lib.ListN.{length, getD}
 use Rattle.notation.specs.Triplets.{Triplet}
-use Rattle.notation.specs.contracts.Shape.{kindAt, yAt, zAt, Shape}
-use Rattle.notation.specs.Ceilings.{flagCeiling, connectiveCeiling}
-use Rattle.relation.specs.Relation.{Rel, IsRelation, Within}
+use Rattle.notation.specs.contracts.Shape.{kindAt, yAt, zAt}
+use Rattle.notation.specs.Ceilings.{flagCeiling}
+use Rattle.truth.specs.contracts.Computed.{Triplets}
+use Rattle.relation.specs.Relation.{Within}
 use Rattle.relation.specs.Least.{Least}
 use Rattle.relation.specs.contracts.Growing.{Growth}
 use Rattle.relation.specs.contracts.Classes.{Classes, kept}
@@ -46,11 +47,9 @@ tripletsAt numbers (suc c) =
 abbrev pub inUse : ℕ → ℕ
 inUse c = 1 + flagCeiling + c
 
--- the numbers begin with c triplets whose operands are known before them
-pub record Readable (numbers : List ℕ) (c : ℕ) : Type 0 where
-  pub long : 3 * c ≤ length numbers
-  pub few : c ≤ connectiveCeiling
-  pub shape : Shape flagCeiling c numbers
+-- the numbers begin with c triplets, over some number of flags and with some root
+abbrev pub Readable : List ℕ → ℕ → Type 0
+Readable numbers c = (n root : ℕ) × Triplets n numbers c root
 
 -- a step on each of the first c triplets in turn: where that enlarges nothing, no step does
 pub record Passed (numbers : List ℕ) (c : ℕ) (xs ys : List ℕ) : Type 0 where

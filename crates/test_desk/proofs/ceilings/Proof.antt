@@ -1,14 +1,10 @@
 -- `test_desk::ceilings` is safe and ends: the place grows by two up to the chain's length.
-use Prim.Native.Nat.{_+_, _-_, _≤_}
+use Prim.Native.Nat.{_-_, _≤_}
 use mathlib.Core.Path.{_≡_}
 use lib.ListN.{length}
 use borrow.Author.Needs.{needs}
 use Rattle.test_desk.proofs.ceilings.Statement.{statement}
 use Rattle.test_desk.proofs.ceilings.Tie as tie
-use Rattle.test_desk.proofs.ceilings.Reads as reads
-use Rattle.test_desk.proofs.ceilings.Lts as lts
-use Rattle.test_desk.proofs.show.reading.Reads as reading-reads
-use Rattle.test_desk.proofs.show.reading_of.Reads as reading-of-reads
 
 abbrev Inv-loop : tie.InvT-loop
 Inv-loop chain₀ i₀ t7 t8 chain i = (i ≤ 514) × (length chain ≡ 513)

@@ -6,21 +6,15 @@ use mathlib.Core.List.{List}
 use lib.ListN.{length}
 use lib.Dec.{eqb}
 use Rattle.notation.specs.Ceilings.{flagCeiling, connectiveCeiling}
-use Rattle.notation.specs.Tokens.{same, implies}
 use Rattle.ground.specs.Choice.{choose}
 use Rattle.notation.specs.Triplets.{tripletVariable}
 use Rattle.notation.specs.contracts.Shape.{Names, Shape, kindAt, yAt, zAt}
-use Rattle.truth.specs.Value.{table}
+use Rattle.truth.specs.Connectives.{gate}
 use Rattle.ground.specs.Bits.{bit}
 
 -- the value of a literal, where v gives the values of variables: 2v is variable v, 2v + 1 its negation
 unfoldable pub literalValue : (ℕ → Bool) → ℕ → Bool
 literalValue v l = choose (eqb (l % 2) 0) (v (l / 2)) (not (v (l / 2)))
-
--- kind 0 is y implies z, kind 1 is y same as z
-unfoldable pub gate : ℕ → Bool → Bool → Bool
-gate zero y z = table implies y z
-gate (suc k) y z = table same y z
 
 -- the values of the variables in the state s of n flags, once the first c triplets of xs are computed:
 -- variable 0 is true, flag i is bit n - i of the state, a triplet is computed from what stands before it

@@ -1,5 +1,5 @@
 -- `guard_check::answer::answer` meets its contract: both ways give what check answers.
-use Rattle.guard_check.proofs.Tables.{askable}
+use Rattle.guard_check.proofs.Tables.{searchable}
 use borrow.Author.Needs.{needs}
 use Rattle.guard_check.proofs.answer.answer.Statement.{statement}
 use Rattle.guard_check.proofs.answer.answer.Tie as tie
@@ -18,7 +18,7 @@ decide-requires : tie.Need-decide-requires
 decide-requires c κs =
     let args· = c .before .before .args in
     let pre· = c .before .before .pre in
-    askable (args· .triplets .now) (args· .count) (args· .flags) (args· .root) (pre·)
+    searchable (args· .triplets .now) (args· .count) (args· .flags) (args· .root) (pre·)
 
 returns-2 : tie.Need-returns-2
 returns-2 c = search needs

@@ -22,16 +22,17 @@ search-requires c κs =
     let pre· = c .before .before .pre in
     (searchable (args· .triplets .now) (args· .count) (args· .flags) (args· .root) (pre·), omega (arith, pow-pos (args· .flags)))
 
-decision-of-requires : tie.Need-decision-of-requires
-decision-of-requires c κs = search needs
+verdict-of-requires : tie.Need-verdict-of-requires
+verdict-of-requires c κs = search needs
 
 returns : tie.Need-returns
 returns c =
     let args· = c .before .before .before .before .before .args in
     let pre· = c .before .before .before .before .before .pre in
     let search· = c .before .before .search in
-    let decision-of· = c .decision-of in
-    fully-found (args· .triplets .now) (args· .count) (args· .flags) (args· .root) (pre·) (search· .result) (decision-of· .result) (search· .ensures) refl (decision-of· .ensures)
+    let verdict-of· = c .verdict-of in
+    fully-found (args· .triplets .now) (args· .count) (args· .flags) (args· .root) (pre·) (search· .result) (verdict-of· .result) (search· .ensures) refl
+    (verdict-of· .ensures)
 
 pub by-tables-spec : {M : Type 1} → statement M
 by-tables-spec =
@@ -41,5 +42,5 @@ by-tables-spec =
     part-none-start
     part-none-end
     search-requires
-    decision-of-requires
+    verdict-of-requires
     returns)

@@ -1,4 +1,4 @@
--- `guard_check::check::check` meets its contract: the ceilings refuse first, then parse's refusal or the decision on its tables is the verdict.
+-- `guard_check::check::check` meets its contract: the ceilings refuse first, then parse's refusal or the verdict on its tables is the verdict.
 use mathlib.Core.Path.{sym}
 use native.Mathlib.Omega.{arith}
 use Rattle.notation.specs.Reading.{reading}
@@ -49,9 +49,6 @@ answer-requires c κs =
     let f = guard-found text (reading text) (parse· .result) codes out (parse· .ensures) x (parsed2· .given .1) in
     from-tables text codes out x f (omega (arith, f .read .room))
 
-verdict-of-requires : tie.Need-verdict-of-requires
-verdict-of-requires c κs = search needs
-
 returns-3 : tie.Need-returns-3
 returns-3 c =
     let args· = c .before .before .before .before .before .before .before .before .before .args in
@@ -65,21 +62,19 @@ returns-3 c =
 
 returns-4 : tie.Need-returns-4
 returns-4 c =
-    let args· = c .before .before .before .before .before .before .before .before .before .before .before .before .args in
-    let parse· = c .before .before .before .before .before .before .parse in
-    let parsed2· = c .before .before .before .before .parsed2 in
-    let if1· = c .before .before .before .before .before .before .before .before .before .before .if1 in
-    let if2· = c .before .before .before .before .before .before .before .before .before .if2 in
-    let answer· = c .before .answer in
-    let verdict-of· = c .verdict-of in
+    let args· = c .before .before .before .before .before .before .before .before .before .before .before .args in
+    let parse· = c .before .before .before .before .before .parse in
+    let parsed2· = c .before .before .before .parsed2 in
+    let if1· = c .before .before .before .before .before .before .before .before .before .if1 in
+    let if2· = c .before .before .before .before .before .before .before .before .if2 in
+    let answer· = c .answer in
     let text = args· .text .now in
     let codes = parse· .last .1 .0 in
     let out = parse· .last .1 .1 .0 in
     let x = parsed2· .given .0 .0 in
     let f = guard-found text (reading text) (parse· .result) codes out (parse· .ensures) x (parsed2· .given .1) in
     tables-say text (args· .depth) (omega (arith, if1· .left)) (omega (arith, if2· .left)) codes out x
-    f (omega (arith, f .read .room))
-    (answer· .result) (answer· .ensures) (verdict-of· .result) (verdict-of· .ensures)
+    f (omega (arith, f .read .room)) (answer· .result) (answer· .ensures)
 
 pub check-spec : {M : Type 1} → statement M
 check-spec =
@@ -92,6 +87,5 @@ check-spec =
     enum-known-parsed-2
     slice-aggregate-answer
     answer-requires
-    verdict-of-requires
     returns-3
     returns-4)

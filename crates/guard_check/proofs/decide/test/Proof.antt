@@ -1,11 +1,9 @@
 -- `guard_check::decide::test` meets its contract: a tied flag has its value, another is 1 where 0 is contradictory.
-use Prim.Native.Nat.{ℕ, _+_, _*_}
 use mathlib.Core.Path.{sym, _∙_}
 use native.Mathlib.Omega.{arith}
 use Rattle.relation.proofs.ClassLaws.{lowers}
 use Rattle.steps.specs.contracts.Resting.{inUse}
 use Rattle.guard_check.proofs.Trying.{tested-true, tested-false, tested-low, tested-high}
-use borrow.Author.Needs.{needs}
 use Rattle.guard_check.proofs.decide.test.Statement.{statement}
 use Rattle.guard_check.proofs.decide.test.Tie as tie
 
@@ -52,7 +50,7 @@ returns-2 c =
 add-size : tie.Need-add-size
 add-size c =
     let pre· = c .before .before .before .before .before .before .before .pre in
-    omega (arith, pre· .0 .readable .few)
+    omega (arith, pre· .0 .readable .2 .count)
 
 add-join : tie.Need-add-join
 add-join c =

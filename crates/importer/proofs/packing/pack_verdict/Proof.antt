@@ -3,7 +3,7 @@ use Prim.Native.Nat.{_^_, _<_}
 use mathlib.Core.Path.{subst, sym, ap, _∙_}
 use native.Mathlib.Omega.{arith}
 use Rattle.notation.specs.Ceilings.{flagCeiling}
-use Rattle.guard_check.specs.declared.verdicts.Verdict.{Verdict}
+use Rattle.saturation.specs.declared.verdict.Verdict.{Verdict}
 use Rattle.importer.specs.Packed.{packedVerdict}
 use Rattle.importer.specs.contracts.Fits.{VerdictFits}
 use borrow.Author.Needs.{needs}

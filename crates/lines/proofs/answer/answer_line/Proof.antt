@@ -1,6 +1,6 @@
 -- `lines::answer::answer_line` meets its contract: a line that is not of the form is refused, and another is checked.
 use mathlib.Core.Path.{refl, sym, _∙_}
-use Rattle.guard_check.specs.declared.verdicts.Verdict.the-variants.{Refused}
+use Rattle.saturation.specs.declared.verdict.Verdict.the-variants.{Refused}
 use Rattle.lines.specs.declared.question.Question.the-variants.{Malformed}
 use Rattle.lines.proofs.Asking.{guard-inside}
 use Rattle.lines.proofs.Answering.{answers, answers-guard}

@@ -1,6 +1,6 @@
 -- `saturation::saturate` meets its contract, in a cycle of calls that ends because the depth falls: between the start and every
 -- stable relation above it, a split at a time, until a pass over the flags changes nothing.
-use Prim.Native.Nat.{ℕ, suc, _+_, _*_, _-_, _≤_, _<_}
+use Prim.Native.Nat.{ℕ, suc, _+_, _*_, _-_, _<_}
 use borrow.Author.Needs.{needs}
 use mathlib.Core.Path.{_≡_, sym, _∙_}
 use native.Mathlib.Omega.{arith}
@@ -91,7 +91,7 @@ saturate-returns t c =
 saturate-add-size-of : (t : ℕ) → saturate-lts.Need-add-size-of (saturate-in t) (saturate-at t) saturate.Post saturate-Inv-loop saturate-μ-loop
 saturate-add-size-of t c =
     let pre· = c .before .before .before .before .before .pre in
-    omega (arith, pre· .1 .readable .few)
+    omega (arith, pre· .1 .readable .2 .count)
 
 saturate-size-of-requires : (t : ℕ) → saturate-lts.Need-size-of-requires (saturate-in t) (saturate-at t) saturate.Post saturate-Inv-loop saturate-μ-loop
 saturate-size-of-requires t c κs =
@@ -104,7 +104,7 @@ saturate-add-was t c =
     let args· = c .before .before .before .before .before .before .args in
     let rest· = c .before .before .before .rest in
     let pre· = c .before .before .before .before .before .before .pre in
-    omega (arith, size-of· .ensures, rank-most (inUse (args· .count)) (entry (rest· .last .0)), pre· .1 .readable .few)
+    omega (arith, size-of· .ensures, rank-most (inUse (args· .count)) (entry (rest· .last .0)), pre· .1 .readable .2 .count)
 
 saturate-loop-holds : (t : ℕ) → saturate-lts.Need-loop-holds (saturate-in t) (saturate-at t) saturate.Post saturate-Inv-loop saturate-μ-loop
 saturate-loop-holds t c =
@@ -128,7 +128,7 @@ saturate-sweep-requires t c κs =
 saturate-add-size-of-2 : (t : ℕ) → saturate-lts.Need-add-size-of-2 (saturate-in t) (saturate-at t) saturate.Post saturate-Inv-loop saturate-μ-loop
 saturate-add-size-of-2 t c =
     let pre· = c .before .before .before .before .before .before .before .before .before .before .before .pre in
-    omega (arith, pre· .1 .readable .few)
+    omega (arith, pre· .1 .readable .2 .count)
 
 saturate-size-of-requires-2 : (t : ℕ) → saturate-lts.Need-size-of-requires-2 (saturate-in t) (saturate-at t) saturate.Post saturate-Inv-loop saturate-μ-loop
 saturate-size-of-requires-2 t c κs =
@@ -174,7 +174,7 @@ split-returns t c =
 split-add-size : (t : ℕ) → split-lts.Need-add-size (split-in t) (split-at t) split.Post
 split-add-size t c =
     let pre· = c .before .before .before .before .pre in
-    omega (arith, pre· .1 .0 .readable .few)
+    omega (arith, pre· .1 .0 .readable .2 .count)
 
 split-cast-on : (t : ℕ) → split-lts.Need-cast-on (split-in t) (split-at t) split.Post
 split-cast-on t c =

@@ -36,84 +36,84 @@ returns c =
 mul-kind : tie.Need-mul-kind Inv-loop μ-loop
 mul-kind c =
     let pre· = c .before .before .before .before .before .pre in
-    omega (arith, pre· .1 .0 .long, pre· .1 .0 .few)
+    omega (arith, pre· .1 .0 .2 .count)
 
 mul-kind-2 : tie.Need-mul-kind-2 Inv-loop μ-loop
 mul-kind-2 c =
     let pre· = c .before .before .before .before .before .pre in
-    omega (arith, pre· .1 .0 .long, pre· .1 .0 .few)
+    omega (arith, pre· .1 .0 .2 .count)
 
 shared-slice-read-kind : tie.Need-shared-slice-read-kind Inv-loop μ-loop
 shared-slice-read-kind c =
     let pre· = c .before .before .before .before .before .before .pre in
-    omega (arith, pre· .1 .0 .long, pre· .1 .0 .few)
+    omega (arith, pre· .1 .0 .2 .count)
 
 cast-kind : tie.Need-cast-kind Inv-loop μ-loop
 cast-kind c =
     let pre· = c .before .before .before .before .before .before .pre in
     let loop· = c .before .before .before .before .loop in
     let loop-test· = c .before .before .before .loop-test in
-    omega (arith, pre· .1 .0 .shape .kinds (loop· .j) (loop-test· .taken))
+    omega (arith, pre· .1 .0 .2 .shape .kinds (loop· .j) (loop-test· .taken))
 
 mul-y : tie.Need-mul-y Inv-loop μ-loop
 mul-y c =
     let pre· = c .before .before .before .before .before .before .pre in
-    omega (arith, pre· .1 .0 .long, pre· .1 .0 .few)
+    omega (arith, pre· .1 .0 .2 .count)
 
 add-y : tie.Need-add-y Inv-loop μ-loop
 add-y c =
     let pre· = c .before .before .before .before .before .before .pre in
-    omega (arith, pre· .1 .0 .long, pre· .1 .0 .few)
+    omega (arith, pre· .1 .0 .2 .count)
 
 mul-y-2 : tie.Need-mul-y-2 Inv-loop μ-loop
 mul-y-2 c =
     let pre· = c .before .before .before .before .before .before .pre in
-    omega (arith, pre· .1 .0 .long, pre· .1 .0 .few)
+    omega (arith, pre· .1 .0 .2 .count)
 
 shared-slice-read-y : tie.Need-shared-slice-read-y Inv-loop μ-loop
 shared-slice-read-y c =
     let pre· = c .before .before .before .before .before .before .before .pre in
-    omega (arith, pre· .1 .0 .long, pre· .1 .0 .few)
+    omega (arith, pre· .1 .0 .2 .count)
 
 mul-z : tie.Need-mul-z Inv-loop μ-loop
 mul-z c =
     let pre· = c .before .before .before .before .before .before .before .pre in
-    omega (arith, pre· .1 .0 .long, pre· .1 .0 .few)
+    omega (arith, pre· .1 .0 .2 .count)
 
 add-z : tie.Need-add-z Inv-loop μ-loop
 add-z c =
     let pre· = c .before .before .before .before .before .before .before .pre in
-    omega (arith, pre· .1 .0 .long, pre· .1 .0 .few)
+    omega (arith, pre· .1 .0 .2 .count)
 
 mul-z-2 : tie.Need-mul-z-2 Inv-loop μ-loop
 mul-z-2 c =
     let pre· = c .before .before .before .before .before .before .before .pre in
-    omega (arith, pre· .1 .0 .long, pre· .1 .0 .few)
+    omega (arith, pre· .1 .0 .2 .count)
 
 shared-slice-read-z : tie.Need-shared-slice-read-z Inv-loop μ-loop
 shared-slice-read-z c =
     let pre· = c .before .before .before .before .before .before .before .before .pre in
-    omega (arith, pre· .1 .0 .long, pre· .1 .0 .few)
+    omega (arith, pre· .1 .0 .2 .count)
 
 add-x : tie.Need-add-x Inv-loop μ-loop
 add-x c =
     let pre· = c .before .before .before .before .before .before .before .before .pre in
-    omega (arith, pre· .1 .0 .long, pre· .1 .0 .few)
+    omega (arith, pre· .1 .0 .2 .count)
 
 cast-x : tie.Need-cast-x Inv-loop μ-loop
 cast-x c =
     let pre· = c .before .before .before .before .before .before .before .before .pre in
-    omega (arith, pre· .1 .0 .long, pre· .1 .0 .few)
+    omega (arith, pre· .1 .0 .2 .count)
 
 mul-x : tie.Need-mul-x Inv-loop μ-loop
 mul-x c =
     let pre· = c .before .before .before .before .before .before .before .before .pre in
-    omega (arith, pre· .1 .0 .long, pre· .1 .0 .few)
+    omega (arith, pre· .1 .0 .2 .count)
 
 add-step : tie.Need-add-step Inv-loop μ-loop
 add-step c =
     let pre· = c .before .before .before .before .before .before .before .before .before .pre in
-    omega (arith, pre· .1 .0 .long, pre· .1 .0 .few)
+    omega (arith, pre· .1 .0 .2 .count)
 
 step-requires : tie.Need-step-requires Inv-loop μ-loop
 step-requires c κs =
@@ -126,7 +126,7 @@ step-requires c κs =
 add-j : tie.Need-add-j Inv-loop μ-loop
 add-j c =
     let pre· = c .before .before .before .before .before .before .before .before .before .before .pre in
-    omega (arith, pre· .1 .0 .long, pre· .1 .0 .few)
+    omega (arith, pre· .1 .0 .2 .count)
 
 loop-less : tie.Need-loop-less Inv-loop μ-loop
 loop-less c = search needs

@@ -20,7 +20,7 @@ table-requires c κs = search needs
 add-size-of : tie.Need-add-size-of Inv-loop μ-loop
 add-size-of c =
     let pre· = c .before .before .before .pre in
-    omega (arith, pre· .0 .few)
+    omega (arith, pre· .0 .2 .count)
 
 size-of-requires : tie.Need-size-of-requires Inv-loop μ-loop
 size-of-requires c κs =
@@ -32,7 +32,7 @@ add-was c =
     let size-of· = c .size-of in
     let args· = c .before .before .before .before .args in
     let pre· = c .before .before .before .before .pre in
-    omega (arith, size-of· .ensures, rank-most (inUse (args· .count)) (entry (args· .of .now)), pre· .0 .few)
+    omega (arith, size-of· .ensures, rank-most (inUse (args· .count)) (entry (args· .of .now)), pre· .0 .2 .count)
 
 loop-holds : tie.Need-loop-holds Inv-loop μ-loop
 loop-holds c =
@@ -51,7 +51,7 @@ pass-requires c κs =
 add-size-of-2 : tie.Need-add-size-of-2 Inv-loop μ-loop
 add-size-of-2 c =
     let pre· = c .before .before .before .before .before .before .before .before .before .before .pre in
-    omega (arith, pre· .0 .few)
+    omega (arith, pre· .0 .2 .count)
 
 size-of-requires-2 : tie.Need-size-of-requires-2 Inv-loop μ-loop
 size-of-requires-2 c κs =

@@ -4,10 +4,6 @@ use lib.ListN.{length}
 use borrow.Author.Needs.{needs}
 use Rattle.test_desk.proofs.show.say_room.Statement.{statement}
 use Rattle.test_desk.proofs.show.say_room.Tie as tie
-use Rattle.test_desk.proofs.show.say_room.Reads as reads
-use Rattle.test_desk.proofs.show.say_room.Lts as lts
-use Rattle.test_desk.proofs.show.say.Reads as say-reads
-use Rattle.test_desk.proofs.show.say_small.Reads as say-small-reads
 
 abbrev Inv-loop : tie.InvT-loop
 Inv-loop room i₀ i = i ≤ length room

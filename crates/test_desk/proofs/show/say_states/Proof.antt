@@ -4,10 +4,6 @@ use lib.ListN.{length}
 use borrow.Author.Needs.{needs}
 use Rattle.test_desk.proofs.show.say_states.Statement.{statement}
 use Rattle.test_desk.proofs.show.say_states.Tie as tie
-use Rattle.test_desk.proofs.show.say_states.Reads as reads
-use Rattle.test_desk.proofs.show.say_states.Lts as lts
-use Rattle.test_desk.proofs.show.say.Reads as say-reads
-use Rattle.test_desk.proofs.show.say_state.Reads as say-state-reads
 
 abbrev Inv-loop : tie.InvT-loop
 Inv-loop out i₀ i = i ≤ length out

@@ -48,8 +48,10 @@ join-requires c κs =
     let fresh· = c .before .fresh in
     let pre· = c .before .before .before .before .before .before .before .before .before .before .before .pre in
     let called· = c .before .before .before .before .before .before .before .before .called in
-    let called2· = c .before .before .before .before .before .before .called2 in
-    (classes-more 0 (inUse (args· .count)) (fresh· .result .of) (omega arith) (omega (arith, pre· .few)) (fresh· .ensures .classes), (called· .ensures, called2· .ensures))
+    let called2· = c .before .before .before .before .before .before .called2 in (
+      classes-more 0 (inUse (args· .count)) (fresh· .result .of) (omega arith) (omega (arith, pre· .2 .count)) (fresh· .ensures .classes),
+      (called· .ensures, called2· .ensures),
+    )
 
 join-requires-2 : tie.Need-join-requires-2
 join-requires-2 c κs = search needs

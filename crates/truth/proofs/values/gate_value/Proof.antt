@@ -2,8 +2,7 @@
 use Prim.Native.Nat.{ℕ, zero, suc}
 use mathlib.Core.Path.{_≡_, refl}
 use mathlib.Core.Bool.{Bool, true, false, not, _||_, Bool·beq}
-use Rattle.truth.specs.Value.{table}
-use Rattle.truth.specs.contracts.Computed.{gate}
+use Rattle.truth.specs.Connectives.{table, gate}
 use Rattle.truth.proofs.values.gate_value.Statement.{statement}
 use Rattle.truth.proofs.values.gate_value.Tie as tie
 

@@ -1,6 +1,6 @@
 -- `truth::values::triplet_value` meets its contract: its operands' values, and what the kind makes of them.
 use mathlib.Core.Path.{ap₂, _∙_}
-use Rattle.truth.specs.contracts.Computed.{gate}
+use Rattle.truth.specs.Connectives.{gate}
 use borrow.Author.Needs.{needs}
 use Rattle.truth.proofs.values.triplet_value.Statement.{statement}
 use Rattle.truth.proofs.values.triplet_value.Tie as tie
