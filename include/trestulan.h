@@ -14,7 +14,8 @@
  * means. Further entries, kinds and refusals may come, ceilings may rise, and a refusal may come to say more in the payload's bits from 24
  * up: take an answer apart by the functions below, and treat a kind or a number that you do not know as not covered.
  *
- * An entry takes at most TRESTULAN_STACK bytes of the calling thread's stack, whatever the text and the number.
+ * An entry takes at most so much of the calling thread's stack as its constant TRESTULAN_STACK_.. names, whatever the text and the number;
+ * TRESTULAN_STACK is enough for every entry.
  */
 #ifndef TRESTULAN_H
 #define TRESTULAN_H
@@ -57,8 +58,14 @@ extern "C" {
 /* The version of this header and of the archive that it came with. */
 #define TRESTULAN_VERSION "0.1.0"
 
-/* Bytes of stack that every entry keeps within; measured on the worst texts known. */
-#define TRESTULAN_STACK 262144u
+/* Bytes of stack that each entry keeps within, for every text and number; measured on the worst texts known. */
+#define TRESTULAN_STACK_READ 40960u
+#define TRESTULAN_STACK_NAME 49152u
+#define TRESTULAN_STACK_EVALUATE 49152u
+#define TRESTULAN_STACK_CHECK_2 49152u /* check at depths 0 to 2 */
+#define TRESTULAN_STACK_CHECK 122880u  /* check at every depth */
+#define TRESTULAN_STACK_LIST 122880u
+#define TRESTULAN_STACK TRESTULAN_STACK_CHECK
 
 /* Ceilings. */
 #define TRESTULAN_MAX_TEXT 4096u
@@ -71,24 +78,25 @@ extern "C" {
 
 /* Checks a guard at a depth of 0 to 24. A greater depth decides no guard less; a depth not below the number of flags decides every
  * guard. It does not always take longer: from the number of flags up the first gap is looked for directly, which is the cheapest on most
- * guards, while depths just below that number are the dearest. Kinds: COVERED, GAP, UNDECIDED, REFUSED. */
+ * guards, while depths just below that number are the dearest. Kinds: COVERED, GAP, UNDECIDED, REFUSED. Stack: TRESTULAN_STACK_CHECK; at
+ * depths 0 to 2 TRESTULAN_STACK_CHECK_2. */
 uint64_t trestulan_check(const void *text, size_t length, uint64_t depth);
 
-/* Evaluates a guard in a state: 0 false, 1 true, or a refusal. */
+/* Evaluates a guard in a state: 0 false, 1 true, or a refusal. Stack: TRESTULAN_STACK_EVALUATE. */
 uint64_t trestulan_evaluate(const void *text, size_t length, uint64_t state);
 
 /* Writes the gaps from start on, ascending, as many as there is room for; entries behind them are unchanged.
- * Kinds: DONE, MORE, REFUSED. With room 0 nothing is written, and the answer is still true. */
+ * Kinds: DONE, MORE, REFUSED. With room 0 nothing is written, and the answer is still true. Stack: TRESTULAN_STACK_LIST. */
 uint64_t trestulan_list(const void *text, size_t length, uint64_t start, uint32_t *out, size_t room);
 
 /* Writes kind, y and z of each triplet from the start of the room; the rest is unchanged.
  * Kinds: FOUND (payload flags x 2^24 + triplets x 2^16 + root literal), REFUSED.
  * To learn n, the number of flags, lend TRESTULAN_MAX_ROOM numbers and take trestulan_read_flags of the answer; or ask name for 1, 2 and
- * so on until it refuses with NO_SUCH_FLAG. */
+ * so on until it refuses with NO_SUCH_FLAG. Stack: TRESTULAN_STACK_READ. */
 uint64_t trestulan_read(const void *text, size_t length, uint16_t *out, size_t room);
 
 /* Where flag i, counted from 1, first stands in the text.
- * Kinds: FOUND (payload start x 2^16 + length of its code), REFUSED. */
+ * Kinds: FOUND (payload start x 2^16 + length of its code), REFUSED. Stack: TRESTULAN_STACK_NAME. */
 uint64_t trestulan_name(const void *text, size_t length, uint64_t i);
 
 /* ---- taking an answer apart */

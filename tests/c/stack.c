@@ -28,10 +28,10 @@ struct call {
 
 /* What the header promises of each entry. */
 static const struct call promised[] = {
-    {"check at depth 0", CHECK, 0, TRESTULAN_STACK},   {"check at depth 1", CHECK, 1, TRESTULAN_STACK},
-    {"check at depth 2", CHECK, 2, TRESTULAN_STACK},   {"check at depth 24", CHECK, 24, TRESTULAN_STACK},
-    {"evaluate", EVALUATE, 0, TRESTULAN_STACK},        {"list", LIST, 0, TRESTULAN_STACK},
-    {"read", READ, 0, TRESTULAN_STACK},                {"name", NAME, 1, TRESTULAN_STACK},
+    {"check at depth 0", CHECK, 0, TRESTULAN_STACK_CHECK_2}, {"check at depth 1", CHECK, 1, TRESTULAN_STACK_CHECK_2},
+    {"check at depth 2", CHECK, 2, TRESTULAN_STACK_CHECK_2}, {"check at depth 24", CHECK, 24, TRESTULAN_STACK_CHECK},
+    {"evaluate", EVALUATE, 0, TRESTULAN_STACK_EVALUATE},     {"list", LIST, 0, TRESTULAN_STACK_LIST},
+    {"read", READ, 0, TRESTULAN_STACK_READ},                 {"name", NAME, 1, TRESTULAN_STACK_NAME},
 };
 enum { ENTRIES = sizeof promised / sizeof promised[0] };
 
