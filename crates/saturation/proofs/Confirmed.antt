@@ -8,11 +8,10 @@ use mathlib.Core.Logic.{⊎-elim}
 use native.Mathlib.Omega.{arith}
 use native.Mathlib.Nat.{div-eq-of-lt, div-lt-iff-lt-mul}
 use lib.Pow.{pow-pos, shr-mono}
-use Rattle.ground.proofs.Cases.{lt-or-ge}
 use Rattle.notation.specs.Guard.{Guard}
 use Rattle.notation.specs.Triplets.{Triplet, negation, literal, triplets}
 use Rattle.truth.specs.Value.{value}
-use Rattle.truth.proofs.Literals.{parity}
+use Rattle.ground.proofs.Cases.{lt-or-ge, parity}
 use Rattle.saturation.specs.Saturation.{taken, Flags}
 use Rattle.truth.specs.contracts.Written.{Proper}
 use Rattle.saturation.specs.Answer.{flagAs, flagsAs, Refuted, Trial, Answer}

@@ -11,7 +11,7 @@ use Rattle.notation.specs.Guard.{Guard}
 use Rattle.notation.specs.Triplets.{negation, literal, triplets}
 use Rattle.relation.specs.Relation.{Rel, IsRelation}
 use Rattle.truth.specs.Value.{value}
-use Rattle.truth.proofs.Literals.{parity}
+use Rattle.ground.proofs.Cases.{parity}
 use Rattle.saturation.specs.Saturation.{Stable, Flags}
 use Rattle.truth.specs.contracts.Written.{Proper}
 use Rattle.saturation.specs.Answer.{flagAs, flagsAs, Refuted, Trial, Answer}

@@ -10,10 +10,10 @@ use lib.Dec.{eqb}
 use lib.Pow.{shr-shr}
 use Rattle.notation.specs.Triplets.{negation}
 use Rattle.relation.specs.Relation.{Rel, IsRelation, Within}
-use Rattle.ground.proofs.Cases.{split-eq}
 use Rattle.ground.specs.Bits.{bit}
 use Rattle.truth.specs.contracts.Computed.{literalValue}
-use Rattle.truth.proofs.Literals.{literal-even, literal-odd, parity}
+use Rattle.truth.proofs.Literals.{literal-even, literal-odd}
+use Rattle.ground.proofs.Cases.{split-eq, parity}
 use Rattle.saturation.specs.Answer.{flagAs, flagsAs}
 use Rattle.saturation.proofs.Taking.{HoldsAll}
 use Rattle.saturation.proofs.Truth.{AllTrue}

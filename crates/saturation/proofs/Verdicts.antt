@@ -9,11 +9,11 @@ use native.Mathlib.Omega.{arith}
 use Rattle.notation.specs.Guard.{Guard}
 use Rattle.notation.specs.Triplets.{Triplet, negation, literal, triplets}
 use Rattle.relation.specs.Relation.{Rel, IsRelation}
-use Rattle.ground.proofs.Cases.{split-eq, either}
 use Rattle.truth.specs.Value.{value}
 use Rattle.ground.specs.Bits.{bit}
 use Rattle.truth.specs.contracts.Computed.{literalValue}
-use Rattle.truth.proofs.Literals.{literal-even, literal-negation, parity}
+use Rattle.truth.proofs.Literals.{literal-even, literal-negation}
+use Rattle.ground.proofs.Cases.{split-eq, either, parity}
 use Rattle.steps.specs.Rest.{NoStepEnlarges}
 use Rattle.steps.proofs.Sides.{negation-twice}
 use Rattle.saturation.specs.Saturation.{taken, Saturated}

@@ -12,10 +12,9 @@ use Rattle.ground.specs.Choice.{choose}
 use Rattle.notation.specs.Triplets.{negation}
 use Rattle.notation.specs.contracts.Writing.{signed}
 use Rattle.relation.specs.Relation.{Rel, IsRelation, Within}
-use Rattle.ground.proofs.Cases.{split-eq}
+use Rattle.ground.proofs.Cases.{split-eq, parity}
 use Rattle.notation.proofs.Shaped.{negation-half}
 use Rattle.relation.proofs.LiteralLaws.{signed-even, signed-odd, negation-differs}
-use Rattle.truth.proofs.Literals.{parity}
 use Rattle.steps.proofs.Sides.{negation-twice}
 
 -- a variable is replaced by a literal

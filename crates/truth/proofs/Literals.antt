@@ -1,21 +1,13 @@
 -- The value of a literal: of a variable, of its negation, and of a negated literal.
-use Prim.Native.Nat.{ℕ, zero, suc, _+_, _*_, _/_, _%_, _<_}
+use Prim.Native.Nat.{ℕ, _+_, _*_, _/_, _%_}
 use mathlib.Core.Path.{_≡_, refl, sym}
 use mathlib.Core.Bool.{Bool, not, Bool·not-not}
-use mathlib.Core.Logic.{_⊎_, inl, inr, ⊎-elim}
+use mathlib.Core.Logic.{⊎-elim}
 use native.Mathlib.Omega.{arith}
 use borrow.Author.Tests.{eq-eqb, ne-eqb}
 use Rattle.notation.specs.Triplets.{negation}
 use Rattle.truth.specs.contracts.Computed.{literalValue}
-
--- a literal is even or odd
-pub parity : (l : ℕ) → (l % 2 ≡ 0) ⊎ (l % 2 ≡ 1)
-parity l = go (l % 2) (omega arith)
-  where
-    go : (r : ℕ) → r < 2 → (r ≡ 0) ⊎ (r ≡ 1)
-    go zero h = inl refl
-    go (suc zero) h = inr refl
-    go (suc (suc r)) h = absurd (omega arith)
+use Rattle.ground.proofs.Cases.{parity}
 
 module _ (v : ℕ → Bool) where
   pub literal-even : (l x : ℕ) → l ≡ 2 * x → literalValue v l ≡ v x
