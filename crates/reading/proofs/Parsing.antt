@@ -45,6 +45,9 @@ pub too-long : (text : List ℕ) (from : ℕ) (u : List Flag) → textCeiling < 
 unfolding readingFrom
 too-long text from u h = rw (lt-leb (length text - from) textCeiling h)
 
+pub whole-too-long : (text : List ℕ) → textCeiling < length text → reading text ≡ refusal 1 textCeiling
+whole-too-long text h = sym (from-start text) ∙ too-long text 0 [] (rw sub-zero h)
+
 ends-accepted : (k : Kind) (text : List ℕ) (p e : ℕ) (u : List Flag) (m : ℕ) → ends k ≡ true → walk after 0 u m (aheadAs k text p e) ≡ accepted u m
 unfolding walk aheadAs
 ends-accepted kind.End text p e u m h = refl

@@ -10,7 +10,7 @@ use Rattle.notation.specs.declared.refusal.Refusal.{Refusal}
 use Rattle.ground.proofs.Cases.{lt-or-ge}
 use Rattle.reading.specs.Service.{ReadSays, readAnswer, roomAfter, refusedWith, nameAnswer, unnamed}
 use Rattle.reading.specs.declared.parse.Parsed.{Parsed}
-use Rattle.reading.proofs.Parsing.{too-long}
+use Rattle.reading.proofs.Parsing.{whole-too-long}
 use Rattle.evaluate.proofs.Evaluated.{evaluates-refusal}
 use Rattle.list.specs.declared.Listing.the-variants as listing
 use Rattle.list.proofs.Listed.{lists-refusal}
@@ -29,7 +29,7 @@ says-only text depth v h r = (λ a. check-unique text depth r v a h, λ e. subst
 module _ (text : List ℕ) (f : Refusal) (says : reading text ≡ refusal (f .number) (f .place)) where
   check-long : textCeiling < length text → (depth : ℕ) → CheckSays text depth (Refused f)
   check-long h depth =
-      let e : asked text depth ≡ refusal (f .number) (f .place) = asks-long text depth h ∙ sym (too-long text h) ∙ says in
+      let e : asked text depth ≡ refusal (f .number) (f .place) = asks-long text depth h ∙ sym (whole-too-long text h) ∙ says in
       subst (λ (x : Reading). ReadingSays x depth (Refused f)) (sym e) refl
 
   check-here : (depth : ℕ) → depth ≤ depthCeiling → CheckSays text depth (Refused f)

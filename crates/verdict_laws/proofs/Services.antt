@@ -16,7 +16,7 @@ use Rattle.notation.specs.Guard.{Guard}
 use Rattle.notation.specs.Reading.{Reading, refusal, guard, reading}
 use Rattle.ground.proofs.Cases.{lt-or-ge, never}
 use Rattle.notation.proofs.Accepted.{reading-accepted}
-use Rattle.reading.proofs.Parsing.{too-long}
+use Rattle.reading.proofs.Parsing.{whole-too-long}
 use Rattle.truth.specs.Value.{value}
 use Rattle.evaluate.specs.Evaluated.{evaluated}
 use Rattle.evaluate.specs.declared.Evaluation.the-variants as evaluation
@@ -80,7 +80,7 @@ pub read-short : (text : List ℕ) (g : Guard) (u : List Flag) → reading text 
 read-short text g u e =
     ⊎-elim
     (λ (a : textCeiling < length text).
-    let r : refusal 1 textCeiling ≡ guard g u = sym (too-long text a) ∙ e in let z : _≡_ {A = ℕ} 0 1 = cc in absurd (omega arith))
+    let r : refusal 1 textCeiling ≡ guard g u = sym (whole-too-long text a) ∙ e in let z : _≡_ {A = ℕ} 0 1 = cc in absurd (omega arith))
     (λ (a : length text ≤ textCeiling). a)
     (lt-or-ge textCeiling (length text))
 
