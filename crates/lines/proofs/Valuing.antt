@@ -9,7 +9,7 @@ use lib.Seq.{length-take-le, drop-drop, drop-at}
 use Rattle.ground.specs.Choice.{choose}
 use Rattle.notation.specs.Walk.{Flag}
 use Rattle.notation.specs.contracts.Codes.{startOf, endOf, codeIn, flagAt, flagsIn}
-use Rattle.notation.proofs.Coding.{flags-length, flags-split}
+use Rattle.notation.proofs.Coding.{flags-length, flags-split, fewer}
 use Rattle.ground.specs.Bits.{bit}
 use Rattle.ground.specs.Bytes.{bytes}
 use Rattle.lines.specs.Printed.{flagValue, valued}
@@ -32,11 +32,7 @@ value-length code false = simp length-append (omega arith)
 pub table-first : (text codes : List ℕ) (k i : ℕ) → CodeTable text codes k → i < k → CodeTable text codes (i + 1)
 table-first text codes k i t h =
     record {
-      inText = record {
-        room = omega (arith, t .inText .room);
-        starts = λ j l. t .inText .starts j (omega arith);
-        ends = λ j l. t .inText .ends j (omega arith);
-      };
+      inText = fewer (t .inText) (omega arith);
       few = omega (arith, t .few);
       short = λ j l. t .short j (omega arith);
     }
