@@ -16,7 +16,8 @@ use Rattle.truth.specs.contracts.Computed.{literalValue}
 use Rattle.gaps.specs.declared.writing.Found.{Found}
 use Rattle.gaps.specs.declared.writing.Found.the-variants.{Done, More}
 use Rattle.gaps.specs.Gaps.{falseFrom}
-use Rattle.rows.specs.contracts.Rows.{wordBits, wordFlags, inRow, turned}
+use Rattle.rows.specs.contracts.Rows.{wordFlags, inRow, turned}
+use Rattle.truth.specs.contracts.Words.{wordBits}
 use Rattle.gaps.specs.contracts.Rows.{Writes, since, wordsOf, LiveWord}
 use Rattle.rows.proofs.Bits.{bit-and}
 use Rattle.rows.proofs.Gates.{turned-other}

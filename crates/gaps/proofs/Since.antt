@@ -16,7 +16,8 @@ use Rattle.rows.proofs.Bits.{bit-shifted, bit-ones, every, every-at}
 use Rattle.gaps.proofs.Ascending.{false-same, false-none, false-parts}
 use Rattle.ground.proofs.Truths.{beq-eq}
 use Rattle.gaps.proofs.Words.{marked}
-use Rattle.rows.specs.contracts.Rows.{wordBits, wordFlags, allOnes}
+use Rattle.rows.specs.contracts.Rows.{wordFlags, allOnes}
+use Rattle.truth.specs.contracts.Words.{wordBits}
 
 pub since-on : (start : ℕ) (v : ℕ → Bool) (s : ℕ) → start ≤ s → since start v s ≡ v s
 unfolding since

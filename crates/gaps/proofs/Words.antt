@@ -15,7 +15,7 @@ use Rattle.ground.specs.Bits.{bit}
 use Rattle.gaps.specs.Gaps.{falseFrom}
 use Rattle.rows.proofs.Bits.{bit-shifted, bit-halved, bit-none, Lowest, lowest, lowest-found}
 use Rattle.gaps.proofs.Ascending.{false-one, false-same, false-none, false-parts}
-use Rattle.rows.specs.contracts.Rows.{wordBits}
+use Rattle.truth.specs.contracts.Words.{wordBits}
 
 -- the word stands for the states from `from` on
 abbrev pub marked : ℕ → ℕ → ℕ → Bool

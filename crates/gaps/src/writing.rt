@@ -10,7 +10,8 @@ ghost use lib.ListN.{length};
 ghost use Rattle.ground.specs.Bits.{bit};
 ghost use Rattle.truth.specs.contracts.Computed.{literalValue};
 ghost use Rattle.gaps.specs.Gaps.{falseFrom};
-ghost use Rattle.rows.specs.contracts.Rows.{wordBits, inRow};
+ghost use Rattle.rows.specs.contracts.Rows.{inRow};
+ghost use Rattle.truth.specs.contracts.Words.{wordBits};
 ghost use Rattle.gaps.specs.contracts.Rows.{Writes, since, LiveWord, wordsOf};
 
 // What became of the states: all were written, and how many stand in the slice; or the slice is full, and which is the next.

@@ -13,7 +13,8 @@ use Rattle.truth.specs.Connectives.{table}
 use Rattle.ground.specs.Bits.{bit}
 use Rattle.notation.specs.Tokens.{same}
 use Rattle.ground.proofs.Cases.{digit, parity}
-use Rattle.rows.specs.contracts.Rows.{wordBits, allOnes}
+use Rattle.rows.specs.contracts.Rows.{allOnes}
+use Rattle.truth.specs.contracts.Words.{wordBits}
 
 -- bit i of a shifted word is bit a + i of the word
 pub bit-shifted : (w a i : ℕ) → bit (w / 2 ^ a) i ≡ bit w (a + i)

@@ -12,7 +12,8 @@ use lib.Dec.{T}
 use borrow.Author.Tests.{eq-eqb}
 use Rattle.ground.specs.Bits.{bit}
 use Rattle.ground.proofs.Cases.{parity}
-use Rattle.rows.specs.contracts.Rows.{wordBits, wordFlags, allOnes, inRow, WordOf, RowMade}
+use Rattle.rows.specs.contracts.Rows.{wordFlags, allOnes, inRow, WordOf, RowMade}
+use Rattle.truth.specs.contracts.Words.{wordBits}
 use Rattle.rows.proofs.Bits.{bit-shifted, bit-none, bit-ones, every, every-at}
 use Rattle.ground.proofs.Truths.{beq-eq}
 

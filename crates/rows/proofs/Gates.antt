@@ -19,7 +19,8 @@ use Rattle.truth.specs.Connectives.{table, gate}
 use Rattle.ground.specs.Bits.{bit}
 use Rattle.truth.specs.contracts.Computed.{literalValue}
 use Rattle.ground.proofs.Cases.{parity}
-use Rattle.rows.specs.contracts.Rows.{wordBits, allOnes, inRow, turned, RowMade, RowOf, TripletMade}
+use Rattle.rows.specs.contracts.Rows.{allOnes, inRow, turned, RowMade, RowOf, TripletMade}
+use Rattle.truth.specs.contracts.Words.{wordBits}
 use Rattle.rows.proofs.Bits.{bit-or, bit-xor, bit-none, bit-ones}
 
 same-false : (u : Bool) → not (table same u false) ≡ u

@@ -7,7 +7,8 @@ ghost use lib.Bits.{bitOr, bitXor};
 ghost use Rattle.notation.specs.Ceilings.{flagCeiling, connectiveCeiling};
 ghost use Rattle.notation.specs.Triplets.{tripletVariable};
 ghost use Rattle.notation.specs.contracts.Shape.{Shape, yAt, zAt};
-ghost use Rattle.rows.specs.contracts.Rows.{wordBits, allOnes, turned, RowMade, RowOf, TripletMade, FlagRows, Evaluated, WordOf, FlagsMade};
+ghost use Rattle.rows.specs.contracts.Rows.{allOnes, turned, RowMade, RowOf, TripletMade, FlagRows, Evaluated, WordOf, FlagsMade};
+ghost use Rattle.truth.specs.contracts.Words.{wordBits};
 
 // Flags whose states one word holds.
 pub const WORD_FLAGS: usize = 6;

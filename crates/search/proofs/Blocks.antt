@@ -11,7 +11,8 @@ use Rattle.truth.specs.contracts.Computed.{literalValue, computed, Valued, root
 use Rattle.truth.proofs.Computing.{valued, valued-unique}
 use Rattle.gaps.specs.declared.writing.Found.{Found}
 use Rattle.gaps.specs.Gaps.{falseFrom}
-use Rattle.rows.specs.contracts.Rows.{wordBits, inRow, Evaluated}
+use Rattle.rows.specs.contracts.Rows.{inRow, Evaluated}
+use Rattle.truth.specs.contracts.Words.{wordBits}
 use Rattle.gaps.specs.contracts.Rows.{Writes, since}
 use Rattle.search.specs.contracts.Walking.{Walked}
 use Rattle.rows.proofs.Evaluating.{flags-kept}

@@ -19,7 +19,8 @@ use Rattle.gaps.specs.declared.writing.Found.{Found}
 use Rattle.gaps.specs.declared.writing.Found.the-variants.{Done, More}
 use Rattle.gaps.specs.Gaps.{falseFrom}
 use Rattle.notation.specs.Triplets.{tripletVariable}
-use Rattle.rows.specs.contracts.Rows.{wordBits, wordFlags, FlagRows, FlagsMade}
+use Rattle.rows.specs.contracts.Rows.{wordFlags, FlagRows, FlagsMade}
+use Rattle.truth.specs.contracts.Words.{wordBits}
 use Rattle.gaps.specs.contracts.Rows.{Writes, since}
 use Rattle.fixing.specs.contracts.Fixing.{Fixed}
 use Rattle.search.specs.contracts.Walking.{widest, Rows, Stretch, Walked}

@@ -9,7 +9,8 @@ use Rattle.ground.specs.Choice.{choose}
 use Rattle.ground.specs.Bits.{bit}
 use Rattle.gaps.specs.declared.writing.Found.{Found}
 use Rattle.gaps.specs.Writing.{found, placed}
-use Rattle.rows.specs.contracts.Rows.{wordBits, wordFlags}
+use Rattle.rows.specs.contracts.Rows.{wordFlags}
+use Rattle.truth.specs.contracts.Words.{wordBits}
 
 -- the states l, written after the first m of the slice
 pub record Writes (out : List ℕ) (m : ℕ) (l : List ℕ) (answer : Found) (after : List ℕ) : Type 0 where

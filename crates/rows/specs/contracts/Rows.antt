@@ -11,14 +11,11 @@ use Rattle.notation.specs.contracts.Shape.{kindAt, yAt, zAt}
 use Rattle.ground.specs.Bits.{bit}
 use Rattle.truth.specs.Connectives.{gate}
 use Rattle.truth.specs.contracts.Computed.{literalValue, Valued}
+use Rattle.truth.specs.contracts.Words.{wordBits}
 
 -- flags whose states one word holds
 abbrev pub wordFlags : ℕ
 wordFlags = 6
-
--- bits of a word, one for each of those states
-abbrev pub wordBits : ℕ
-wordBits = 64
 
 -- the word of all ones
 abbrev pub allOnes : ℕ

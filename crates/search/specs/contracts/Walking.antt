@@ -8,7 +8,8 @@ use Rattle.notation.specs.Ceilings.{connectiveCeiling}
 use Rattle.notation.specs.Triplets.{tripletVariable}
 use Rattle.gaps.specs.declared.writing.Found.{Found}
 use Rattle.gaps.specs.Gaps.{falseFrom}
-use Rattle.rows.specs.contracts.Rows.{wordBits, FlagRows}
+use Rattle.rows.specs.contracts.Rows.{FlagRows}
+use Rattle.truth.specs.contracts.Words.{wordBits}
 use Rattle.gaps.specs.contracts.Rows.{Writes, since}
 
 -- the widest rows have 2^widest words, and so hold the states of so many more flags than a word

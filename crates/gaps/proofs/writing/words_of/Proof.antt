@@ -5,7 +5,8 @@ use native.Mathlib.Omega.{arith}
 use lib.Pow.{shl-exact}
 use borrow.Author.Needs.{needs}
 use Rattle.gaps.proofs.Since.{words-few, words-many}
-use Rattle.rows.specs.contracts.Rows.{wordBits, wordFlags}
+use Rattle.rows.specs.contracts.Rows.{wordFlags}
+use Rattle.truth.specs.contracts.Words.{wordBits}
 use Rattle.gaps.proofs.writing.words_of.Statement.{statement}
 use Rattle.gaps.proofs.writing.words_of.Tie as tie
 

@@ -4,7 +4,7 @@ use borrow.Author.Needs.{needs}
 use Rattle.gaps.proofs.Written.{writes-none}
 use Rattle.gaps.proofs.Words.{marked}
 use Rattle.gaps.proofs.Since.{since-whole, since-none, since-cut}
-use Rattle.rows.specs.contracts.Rows.{wordBits}
+use Rattle.truth.specs.contracts.Words.{wordBits}
 use Rattle.gaps.proofs.writing.write_from.Statement.{statement}
 use Rattle.gaps.proofs.writing.write_from.Tie as tie
 

@@ -6,7 +6,7 @@ use borrow.Author.Needs.{needs}
 use Rattle.gaps.specs.contracts.Rows.{since}
 use Rattle.rows.proofs.Gates.{rows-apart}
 use Rattle.gaps.proofs.RowWriting.{Stretch, stretch-start, stretch-more, stretch-stop, stretch-done, rowValue, row-word, row-whole, words-within}
-use Rattle.rows.specs.contracts.Rows.{wordBits}
+use Rattle.truth.specs.contracts.Words.{wordBits}
 use Rattle.gaps.proofs.writing.write_row.Statement.{statement}
 use Rattle.gaps.proofs.writing.write_row.Tie as tie
 

@@ -4,7 +4,7 @@ use native.Mathlib.Omega.{arith}
 use borrow.Author.Needs.{needs}
 use lib.Count.{trailingZeros}
 use Rattle.gaps.proofs.Words.{Rest, rest-start, rest-done, rest-within, rest-full, rest-more}
-use Rattle.rows.specs.contracts.Rows.{wordBits}
+use Rattle.truth.specs.contracts.Words.{wordBits}
 use Rattle.gaps.proofs.writing.write_word.Statement.{statement}
 use Rattle.gaps.proofs.writing.write_word.Tie as tie
 
