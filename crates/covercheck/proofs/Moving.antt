@@ -14,7 +14,8 @@ pub moved-within : (most n : ℕ) (r : Moved) → r ≡ Bytes n → MovedSays mo
 moved-within most n r e h = subst (MovedSays most) e h
 
 -- what was moved of the part of a slice from k on ends within the slice
-pub moved-on : (all : List ℕ) (k n : ℕ) (r : Moved) → r ≡ Bytes n → MovedSays (length (take (length all - k) (drop k all))) r → k ≤ length all → k + n ≤ length all
+pub moved-on : (all : List ℕ) (k n : ℕ) (r : Moved) → r ≡ Bytes n → MovedSays (length (take (length all - k) (drop k all))) r → k ≤ length all
+    → k + n ≤ length all
 moved-on all k n r e h l =
     omega (arith, moved-within _ n r e h, length-take (length all - k) (drop k all), length-drop k all)
 

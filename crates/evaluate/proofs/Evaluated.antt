@@ -29,7 +29,8 @@ module _ (text : List ℕ) (state : ℕ) where
         let late : ltb state (2 ^ length (f .flags)) ≡ false = rw (read-flags text x codes xs f) at h in
         rw (f .says, late) refl
 
-    pub evaluates-value : ltb state (2 ^ x .flags) ≡ true → (b : Bool) → b ≡ rootValue (x .flags) xs (x .count) (x .root) state → Value b ≡ evaluated (reading text) state
+    pub evaluates-value : ltb state (2 ^ x .flags) ≡ true → (b : Bool) → b ≡ rootValue (x .flags) xs (x .count) (x .root) state → Value b
+        ≡ evaluated (reading text) state
     unfolding evaluated
     evaluates-value h b e =
         let soon : ltb state (2 ^ length (f .flags)) ≡ true = rw (read-flags text x codes xs f) at h in
@@ -40,5 +41,6 @@ module _ (text : List ℕ) (state : ℕ) where
         rw (f .says, soon) (ap Value v)
 
 -- no second answer satisfies evaluate's statement
-pub evaluate-unique : (text : List ℕ) (state : ℕ) (r s : Evaluation) → r ≡ evaluated (reading text) state → s ≡ evaluated (reading text) state → r ≡ s
+pub evaluate-unique : (text : List ℕ) (state : ℕ) (r s : Evaluation) → r ≡ evaluated (reading text) state → s ≡ evaluated (reading text) state
+    → r ≡ s
 evaluate-unique text state r s a b = cc

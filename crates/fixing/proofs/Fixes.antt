@@ -45,7 +45,8 @@ literal-two l x e = ⊎-elim (λ (p : l % 2 ≡ 0). inl (omega arith)) (λ (p : 
 abbrev pub Alike : (ℕ → ℕ) → (ℕ → ℕ) → ℕ → Type 0
 Alike f g x = (l : ℕ) → (l / 2 ≡ x → ⊥) → g l ≡ f l
 
-module _ (n : ℕ) (b : Bool) (xs : List ℕ) (j : ℕ) (f : ℕ → ℕ) (c : ℕ) (ys : List ℕ) (small : suc n ≤ flagCeiling) (i : Fixing n b xs j f c ys) where
+module _ (n : ℕ) (b : Bool) (xs : List ℕ) (j : ℕ) (f : ℕ → ℕ) (c : ℕ) (ys : List ℕ) (small : suc n ≤ flagCeiling)
+    (i : Fixing n b xs j f c ys) where
   -- a literal t that has the value of triplet j in every state takes its place
   module _ (g : ℕ → ℕ) (t c′ : ℕ) (ys′ : List ℕ) (few : c′ ≤ suc j) (shape : Shape n c′ ys′) (more : c ≤ c′)
       (kept : (s l : ℕ) → Names n c l → literalValue (computed n s ys′ c′) l ≡ literalValue (computed n s ys c) l)
@@ -70,9 +71,11 @@ module _ (n : ℕ) (b : Bool) (xs : List ℕ) (j : ℕ) (f : ℕ → ℕ) (c : �
         → literalValue (computed n s ys′ c′) (g l) ≡ literalValue (computed (suc n) s xs (suc j)) l
     new-valued s l h e =
         ⊎-elim
-        (λ (p : l ≡ 2 * tripletVariable (suc j)). rw (p, even) (right s h ∙ sym (literal-even (computed (suc n) s xs (suc j)) (2 * tripletVariable (suc j)) (tripletVariable (suc j)) refl)))
+        (λ (p : l ≡ 2 * tripletVariable (suc j)). rw (p, even)
+        (right s h ∙ sym (literal-even (computed (suc n) s xs (suc j)) (2 * tripletVariable (suc j)) (tripletVariable (suc j)) refl)))
         (λ (p : l ≡ 2 * tripletVariable (suc j) + 1).
-        rw (p, odd) (literal-negation (computed n s ys′ c′) t ∙ ap not (right s h) ∙ sym (literal-odd (computed (suc n) s xs (suc j)) (2 * tripletVariable (suc j) + 1) (tripletVariable (suc j)) refl)))
+        rw (p, odd) (literal-negation (computed n s ys′ c′) t ∙ ap not (right s h) ∙ sym
+        (literal-odd (computed (suc n) s xs (suc j)) (2 * tripletVariable (suc j) + 1) (tripletVariable (suc j)) refl)))
         (literal-two l (tripletVariable (suc j)) e)
 
     pub fixing-step : Fixing n b xs (suc j) g c′ ys′
@@ -117,7 +120,8 @@ module _ (n : ℕ) (b : Bool) (xs : List ℕ) (j : ℕ) (f : ℕ → ℕ) (c : �
     (ny : Names (suc n) j (yAt xs j)) (nz : Names (suc n) j (zAt xs j)) where
   -- what triplet j is computed to be, by what became of its operands
   made-of : (s : ℕ) → bit s n ≡ b
-      → gate (kindAt xs j) (literalValue (computed n s ys c) (f (yAt xs j))) (literalValue (computed n s ys c) (f (zAt xs j))) ≡ computed (suc n) s xs (suc j) (tripletVariable (suc j))
+      → gate (kindAt xs j) (literalValue (computed n s ys c) (f (yAt xs j))) (literalValue (computed n s ys c) (f (zAt xs j))) ≡ computed (suc n) s xs
+      (suc j) (tripletVariable (suc j))
   made-of s h = ap₂ (gate (kindAt xs j)) (i .valued s (yAt xs j) h ny) (i .valued s (zAt xs j) h nz) ∙ sym (triplet-made (suc n) s xs j)
 
   module _ (g : ℕ → ℕ) (t : ℕ) (ys′ : List ℕ) (alike : Alike f g (tripletVariable (suc j)))
@@ -179,10 +183,12 @@ first-flag n s b xs h =
 start-valued : (n s : ℕ) (b : Bool) (xs ys : List ℕ) (f : ℕ → ℕ) → Started n b f → bit s n ≡ b → (l : ℕ) → l / 2 ≤ suc n
     → literalValue (computed n s ys 0) (f l) ≡ literalValue (computed (suc n) s xs 0) l
 start-valued n s b xs ys f st h zero p =
-    rw (st .top) (literal-even (computed n s ys 0) 0 0 refl ∙ true-at-start n s ys ∙ sym (literal-even (computed (suc n) s xs 0) 0 0 refl ∙ true-at-start (suc n) s xs))
+    rw (st .top) (literal-even (computed n s ys 0) 0 0 refl ∙ true-at-start n s ys ∙ sym
+    (literal-even (computed (suc n) s xs 0) 0 0 refl ∙ true-at-start (suc n) s xs))
 start-valued n s b xs ys f st h (suc zero) p =
     rw (st .bottom)
-    (literal-odd (computed n s ys 0) 1 0 refl ∙ ap not (true-at-start n s ys) ∙ sym (literal-odd (computed (suc n) s xs 0) 1 0 refl ∙ ap not (true-at-start (suc n) s xs)))
+    (literal-odd (computed n s ys 0) 1 0 refl ∙ ap not (true-at-start n s ys) ∙ sym
+    (literal-odd (computed (suc n) s xs 0) 1 0 refl ∙ ap not (true-at-start (suc n) s xs)))
 start-valued n s b xs ys f st h (suc (suc zero)) p =
     st .first (computed n s ys 0) (true-at-start n s ys) ∙ sym (literal-even (computed (suc n) s xs 0) 2 1 refl ∙ first-flag n s b xs h)
 start-valued n s b xs ys f st h (suc (suc (suc zero))) p =
@@ -194,10 +200,12 @@ start-valued n s b xs ys f st h (suc (suc (suc (suc k)))) p = further (suc (suc 
         ⊎-elim
         (λ (e : l % 2 ≡ 0).
         rw (st .others l a (omega arith))
-        (literal-even (computed n s ys 0) (l - 2) (l / 2 - 1) (omega arith) ∙ flag-shifted n s (l / 2) xs ys (omega arith) ∙ sym (literal-even (computed (suc n) s xs 0) l (l / 2) (omega arith))))
+        (literal-even (computed n s ys 0) (l - 2) (l / 2 - 1) (omega arith) ∙ flag-shifted n s (l / 2) xs ys (omega arith) ∙ sym
+        (literal-even (computed (suc n) s xs 0) l (l / 2) (omega arith))))
         (λ (e : l % 2 ≡ 1).
         rw (st .others l a (omega arith))
-        (literal-odd (computed n s ys 0) (l - 2) (l / 2 - 1) (omega arith) ∙ ap not (flag-shifted n s (l / 2) xs ys (omega arith)) ∙ sym (literal-odd (computed (suc n) s xs 0) l (l / 2) (omega arith))))
+        (literal-odd (computed n s ys 0) (l - 2) (l / 2 - 1) (omega arith) ∙ ap not (flag-shifted n s (l / 2) xs ys (omega arith)) ∙ sym
+        (literal-odd (computed (suc n) s xs 0) l (l / 2) (omega arith))))
         (parity l)
 
 pub fixing-start : (n : ℕ) (b : Bool) (xs ys : List ℕ) (f : ℕ → ℕ) → Started n b f → Fixing n b xs 0 f 0 ys
@@ -217,6 +225,7 @@ fixing-start n b xs ys f st =
         m
 
 -- the root is what became of it
-pub fixing-done : (n : ℕ) (b : Bool) (xs : List ℕ) (count root : ℕ) (f : ℕ → ℕ) (c : ℕ) (ys : List ℕ) → Fixing n b xs count f c ys → Names (suc n) count root
+pub fixing-done : (n : ℕ) (b : Bool) (xs : List ℕ) (count root : ℕ) (f : ℕ → ℕ) (c : ℕ) (ys : List ℕ) → Fixing n b xs count f c ys → Names
+    (suc n) count root
     → Fixed n b xs count root ys c (f root)
 fixing-done n b xs count root f c ys i m = record { few = i .few; shape = i .shape; named = i .named root m; valued = λ s h. i .valued s root h m }

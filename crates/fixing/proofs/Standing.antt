@@ -122,13 +122,15 @@ module _ (y z : ℕ) where
   same-opposed e = record { value = λ v t. rw (e, literal-negation v z, value-false v t) (same-opposite (literalValue v z)); of = inl refl }
 
 -- two stores say what triplet j became
-pub put-made : (to : List ℕ) (j t x u : ℕ) → x ≡ 2 * tripletVariable (suc j) → x + 1 < length to → u ≡ negation t → Put to j t (set (set to x t) (x + 1) u)
+pub put-made : (to : List ℕ) (j t x u : ℕ) → x ≡ 2 * tripletVariable (suc j) → x + 1 < length to → u ≡ negation t → Put to j t
+    (set (set to x t) (x + 1) u)
 put-made to j t x u e h n =
     record {
       long = length-set (set to x t) (x + 1) u ∙ length-set to x t;
       even = rw (← e) (getD-set-other (set to x t) (x + 1) x u 0 (λ (z : x ≡ x + 1). omega arith) ∙ getD-set-same to x t 0 (omega arith));
       odd = rw (← e) (getD-set-same (set to x t) (x + 1) u 0 (rw (length-set to x t) h) ∙ n);
-      others = λ l a. getD-set-other (set to x t) (x + 1) l u 0 (λ (z : l ≡ x + 1). a (omega arith)) ∙ getD-set-other to x l t 0 (λ (z : l ≡ x). a (omega arith));
+      others = λ l a. getD-set-other (set to x t) (x + 1) l u 0 (λ (z : l ≡ x + 1). a (omega arith)) ∙ getD-set-other to x l t 0
+          (λ (z : l ≡ x). a (omega arith));
     }
 
 one-less : (b : Bool) → 1 - choose b 0 1 ≡ choose b 1 0
@@ -146,8 +148,10 @@ filled-four b to f h e =
     let l₃ : length to₃ ≡ length to₂ = length-set to₂ 2 f in
     record {
       long = refl;
-      top = getD-set-other to₃ 3 0 (1 - f) 0 (λ (z : 0 ≡ 3). omega arith) ∙ getD-set-other to₂ 2 0 f 0 (λ (z : 0 ≡ 2). omega arith) ∙ getD-set-other to₁ 1 0 1 0 (λ (z : 0 ≡ 1). omega arith) ∙ getD-set-same to 0 0 0 (omega arith);
-      bottom = getD-set-other to₃ 3 1 (1 - f) 0 (λ (z : 1 ≡ 3). omega arith) ∙ getD-set-other to₂ 2 1 f 0 (λ (z : 1 ≡ 2). omega arith) ∙ getD-set-same to₁ 1 1 0 (omega arith);
+      top = getD-set-other to₃ 3 0 (1 - f) 0 (λ (z : 0 ≡ 3). omega arith) ∙ getD-set-other to₂ 2 0 f 0 (λ (z : 0 ≡ 2). omega arith)
+          ∙ getD-set-other to₁ 1 0 1 0 (λ (z : 0 ≡ 1). omega arith) ∙ getD-set-same to 0 0 0 (omega arith);
+      bottom = getD-set-other to₃ 3 1 (1 - f) 0 (λ (z : 1 ≡ 3). omega arith) ∙ getD-set-other to₂ 2 1 f 0 (λ (z : 1 ≡ 2). omega arith)
+          ∙ getD-set-same to₁ 1 1 0 (omega arith);
       first = getD-set-other to₃ 3 2 (1 - f) 0 (λ (z : 2 ≡ 3). omega arith) ∙ getD-set-same to₂ 2 f 0 (omega arith) ∙ e;
       not-first = getD-set-same to₃ 3 (1 - f) 0 (omega arith) ∙ ap (λ u. 1 - u) e ∙ one-less b;
       others = λ k p q. absurd (omega arith);
@@ -195,16 +199,26 @@ started n b to after s =
       others = λ l p q. s .others l p (omega arith);
     }
 
-pub started-by : (b : Bool) (to to′ after : List ℕ) (l m : ℕ) → StartedBy b to′ after l → m ≤ l → length to′ ≡ length to → StartedBy b to after m
+pub started-by : (b : Bool) (to to′ after : List ℕ) (l m : ℕ) → StartedBy b to′ after l → m ≤ l → length to′ ≡ length to → StartedBy b
+    to after m
 started-by b to to′ after l m f h e =
-    record { long = f .long ∙ e; top = f .top; bottom = f .bottom; first = f .first; not-first = f .not-first; others = λ k p q. f .others k p (omega arith) }
+    record {
+      long = f .long ∙ e;
+      top = f .top;
+      bottom = f .bottom;
+      first = f .first;
+      not-first = f .not-first;
+      others = λ k p q. f .others k p
+          (omega arith);
+    }
 
 -- a literal that is x or stands for a triplet is small where x and the operands are
 pub small-literal : (kind y z x t m : ℕ) → Simplified kind y z x t → x / 2 < m → y / 2 < m → z / 2 < m → 0 < m → t / 2 < m
 small-literal kind y z x t m o hx hy hz h =
     ⊎-elim
     (λ (e : t ≡ x). rw e hx)
-    (λ (s : Stands kind y z t). ⊎-elim (λ (e : t / 2 ≡ 0). rw e h) (⊎-elim (λ (e : t / 2 ≡ y / 2). rw e hy) (λ (e : t / 2 ≡ z / 2). rw e hz)) (s .of))
+    (λ (s : Stands kind y z t). ⊎-elim (λ (e : t / 2 ≡ 0). rw e h) (⊎-elim (λ (e : t / 2 ≡ y / 2). rw e hy) (λ (e : t / 2 ≡ z / 2). rw e hz))
+    (s .of))
     o
 
 -- three numbers stored at c
@@ -246,7 +260,14 @@ module _ (xs : List ℕ) (j : ℕ) (to : List ℕ) (c : ℕ) (ys to′ : List �
         t = t;
         put = p;
         agree = three-agree ys c (kindAt xs j) (getD to (yAt xs j) 0) (getD to (zAt xs j) 0) h;
-        became = inr (omega arith, e ∙ ex, three-kind ys c (kindAt xs j) (getD to (yAt xs j) 0) (getD to (zAt xs j) 0) h, three-y ys c (kindAt xs j) (getD to (yAt xs j) 0) (getD to (zAt xs j) 0) h, three-z ys c (kindAt xs j) (getD to (yAt xs j) 0) (getD to (zAt xs j) 0) h);
+        became = inr (
+          omega arith,
+          e ∙ ex,
+          three-kind ys c (kindAt xs j) (getD to (yAt xs j) 0) (getD to (zAt xs j) 0) h,
+          three-y ys c (kindAt xs j)
+              (getD to (yAt xs j) 0) (getD to (zAt xs j) 0) h,
+          three-z ys c (kindAt xs j) (getD to (yAt xs j) 0) (getD to (zAt xs j) 0) h,
+        );
       }
 
   pub triplet-stands : (x : ℕ) → Simplified (kindAt xs j) (getD to (yAt xs j) 0) (getD to (zAt xs j) 0) x t → (t ≡ x → ⊥)
@@ -260,17 +281,21 @@ module _ (xs : List ℕ) (j : ℕ) (to : List ℕ) (c : ℕ) (ys to′ : List �
       }
 
 -- one triplet fixed, one more is
-pub fixing-again : (n : ℕ) (b : Bool) (xs : List ℕ) (j : ℕ) (to : List ℕ) (c : ℕ) (ys to′ : List ℕ) (c′ : ℕ) (ys′ : List ℕ) → suc n ≤ flagCeiling
+pub fixing-again : (n : ℕ) (b : Bool) (xs : List ℕ) (j : ℕ) (to : List ℕ) (c : ℕ) (ys to′ : List ℕ) (c′ : ℕ) (ys′ : List ℕ) → suc n
+    ≤ flagCeiling
     → Fixing n b xs j (λ l. getD to l 0) c ys → Names (suc n) j (yAt xs j) → Names (suc n) j (zAt xs j) → kindAt xs j ≤ 1
     → TripletFixed xs j to c ys to′ c′ ys′ → Fixing n b xs (suc j) (λ l. getD to′ l 0) c′ ys′
 fixing-again n b xs j to c ys to′ c′ ys′ small i ny nz k r =
     ⊎-elim
     (λ (p : (c′ ≡ c) × Stands (kindAt xs j) (getD to (yAt xs j) 0) (getD to (zAt xs j) 0) (r .t)).
     rw (p .0)
-    (fixing-stands n b xs j (λ l. getD to l 0) c ys small i ny nz (λ l. getD to′ l 0) (r .t) ys′ (r .put .others) (r .put .even) (r .put .odd) (r .agree) (p .1)))
-    (λ (p : (c′ ≡ suc c) × (r .t ≡ 2 * tripletVariable (suc c)) × (kindAt ys′ c ≡ kindAt xs j) × (yAt ys′ c ≡ getD to (yAt xs j) 0) × (zAt ys′ c ≡ getD to (zAt xs j) 0)).
+    (fixing-stands n b xs j (λ l. getD to l 0) c ys small i ny nz (λ l. getD to′ l 0) (r .t) ys′ (r .put .others) (r .put .even) (r .put .odd)
+    (r .agree) (p .1)))
+    (λ (p : (c′ ≡ suc c) × (r .t ≡ 2 * tripletVariable (suc c)) × (kindAt ys′ c ≡ kindAt xs j) × (yAt ys′ c ≡ getD to (yAt xs j) 0)
+    × (zAt ys′ c ≡ getD to (zAt xs j) 0)).
     rw (p .0)
-    (fixing-new n b xs j (λ l. getD to l 0) c ys small i ny nz (λ l. getD to′ l 0) (r .t) ys′ (r .put .others) (r .put .even) (r .put .odd) (r .agree) (p .1) k (p .2) (p .3) (p .4)))
+    (fixing-new n b xs j (λ l. getD to l 0) c ys small i ny nz (λ l. getD to′ l 0) (r .t) ys′ (r .put .others) (r .put .even) (r .put .odd) (r .agree)
+    (p .1) k (p .2) (p .3) (p .4)))
     (r .became)
 
 -- what became of an operand lies below the triplet, and so does the operand

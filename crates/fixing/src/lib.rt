@@ -124,7 +124,8 @@ fn start(to: &mut [u16], n: usize, b: bool)
 
 // Fixes triplet j, given that c are left before it: a literal stands for it, or it is one more. Answers how many are left.
 fn fix_triplet(xs: &[u16], j: usize, to: &mut [u16], ys: &mut [u16], c: usize) -> usize
-    requires { ⌜ (j < connectiveCeiling) × (c ≤ j) × (3 * j + 2 < length (now xs)) × (3 * c + 2 < length (now ys)) × (2 * tripletVariable (suc j) + 1 < length (now to)) ⌝ }
+    requires { ⌜ (j < connectiveCeiling) × (c ≤ j) × (3 * j + 2 < length (now xs)) × (3 * c + 2 < length (now ys))
+        × (2 * tripletVariable (suc j) + 1 < length (now to)) ⌝ }
     requires { ⌜ Operands (now xs) j (now to) ⌝ }
     ensures { λ r. ⌜ TripletFixed (now (xs .entry)) j (now (to .entry)) c (now (ys .entry)) (now (to .exit)) r (now (ys .exit)) ⌝ }
 {
@@ -153,7 +154,8 @@ pub fn fix_first(
     to: &mut [u16],
     ys: &mut [u16],
 ) -> Left
-    requires { ⌜ (n < flagCeiling) × (count ≤ connectiveCeiling) × (3 * count ≤ length (now xs)) × (2 * tripletVariable (suc connectiveCeiling) ≤ length (now to)) × (3 * connectiveCeiling ≤ length (now ys)) ⌝ }
+    requires { ⌜ (n < flagCeiling) × (count ≤ connectiveCeiling) × (3 * count ≤ length (now xs))
+        × (2 * tripletVariable (suc connectiveCeiling) ≤ length (now to)) × (3 * connectiveCeiling ≤ length (now ys)) ⌝ }
     requires { ⌜ Shape (suc n) count (now xs) × Names (suc n) count root ⌝ }
     ensures { λ r. ⌜ Fixed n b (now (xs .entry)) count root (now (ys .exit)) (r .count) (r .root) ⌝ }
 {

@@ -47,7 +47,8 @@ module _ (v : ℕ → Bool) (base len from : ℕ) (out₀ out : List ℕ) (j m :
       let f : base + j + d ≡ base + (j + d) = omega arith in
       ap (falseFrom v (base + j)) e ∙ false-parts v (base + j) d (len - (j + d)) ∙ (rw f)
 
-  pub stretch-more : (d k : ℕ) (r : Found) (after : List ℕ) → r ≡ Done k → j + d ≤ len → length after ≡ length out → Writes out m (falseFrom v (base + j) d) r after
+  pub stretch-more : (d k : ℕ) (r : Found) (after : List ℕ) → r ≡ Done k → j + d ≤ len → length after ≡ length out → Writes out m
+      (falseFrom v (base + j) d) r after
       → Stretch v base len from out₀ after (j + d) k
   stretch-more d k r after e h l u =
       let w : Writes out m (falseFrom v (base + j) d) (Done k) after = rw e at u in
@@ -55,7 +56,8 @@ module _ (v : ℕ → Bool) (base len from : ℕ) (out₀ out : List ℕ) (j m :
         same = l ∙ i .same;
         room = rw l (done-room out m (falseFrom v (base + j) d) k after w);
         within = h;
-        go = λ q end x. i .go q end (rw (stretch-parts d h) (writes-then out after end m k (falseFrom v (base + j) d) (falseFrom v (base + (j + d)) (len - (j + d))) q w x));
+        go = λ q end x. i .go q end (rw (stretch-parts d h) (writes-then out after end m k (falseFrom v (base + j) d)
+            (falseFrom v (base + (j + d)) (len - (j + d))) q w x));
       }
     where
       done-room : (o : List ℕ) (m : ℕ) (l : List ℕ) (k : ℕ) (o′ : List ℕ) → Writes o m l (Done k) o′ → k ≤ length o
@@ -66,7 +68,8 @@ module _ (v : ℕ → Bool) (base len from : ℕ) (out₀ out : List ℕ) (j m :
   stretch-stop d k x r after e h u =
       let w : Writes out m (falseFrom v (base + j) d) (More k x) after = rw e at u in
       rw e
-      (i .go (More k x) after (rw (stretch-parts d h) (writes-stop out after m k x (falseFrom v (base + j) d) (falseFrom v (base + (j + d)) (len - (j + d))) w)))
+      (i .go (More k x) after (rw (stretch-parts d h) (writes-stop out after m k x (falseFrom v (base + j) d) (falseFrom v (base + (j + d)) (len - (j + d)))
+      w)))
 
   pub stretch-done : len ≤ j → Writes out₀ from (falseFrom v base len) (Done m) out
   stretch-done h =
@@ -100,18 +103,28 @@ module _ (rows : List ℕ) (root n width base start : ℕ) where
       since-same start _ _ (base + wordBits * w) wordBits (λ s p q. at s p q)
     where
       at : (s : ℕ) → base + wordBits * w ≤ s → s < base + wordBits * w + wordBits
-          → marked (bitAnd (bitXor (getD rows (root / 2 * width + w) 0) t) live) (base + wordBits * w) s ≡ choose (ltb (s - base) (2 ^ n)) (literalValue (inRow rows width (s - base)) root) true
+          → marked (bitAnd (bitXor (getD rows (root / 2 * width + w) 0) t) live) (base + wordBits * w) s ≡ choose (ltb (s - base) (2 ^ n))
+          (literalValue (inRow rows width (s - base)) root) true
       at s p q =
           let i : ℕ = s - (base + wordBits * w) in
           let b : i < wordBits = omega arith in
           let f : s - base ≡ wordBits * w + i = omega arith in
-          rw (f, bit-and (bitXor (getD rows (root / 2 * width + w) 0) t) live i, l w i h b, e, turned-other root (getD rows (root / 2 * width + w) 0) i b, literal-in-row rows root width w i b)
-          (dead (choose (eqb (root % 2) 0) (bit (getD rows (root / 2 * width + w) 0) i) (not (bit (getD rows (root / 2 * width + w) 0) i))) (ltb (wordBits * w + i) (2 ^ n)))
+          rw (
+            f,
+            bit-and (bitXor (getD rows (root / 2 * width + w) 0) t) live i,
+            l w i h b,
+            e,
+            turned-other root (getD rows (root / 2 * width + w) 0) i b,
+            literal-in-row rows root width w i b,
+          )
+          (dead (choose (eqb (root % 2) 0) (bit (getD rows (root / 2 * width + w) 0) i) (not (bit (getD rows (root / 2 * width + w) 0) i)))
+          (ltb (wordBits * w + i) (2 ^ n)))
 
   words-enough : 2 ^ n ≤ wordBits * wordsOf n
   words-enough =
       ⊎-elim
-      (λ (b : ltb n wordFlags ≡ true). let h : n < wordFlags = ltb-true n wordFlags b in rw (words-few n h) (omega (arith, pow-mono {i = n} {j = wordFlags} (omega arith))))
+      (λ (b : ltb n wordFlags ≡ true). let h : n < wordFlags = ltb-true n wordFlags b in rw (words-few n h)
+      (omega (arith, pow-mono {i = n} {j = wordFlags} (omega arith))))
       (λ (b : ltb n wordFlags ≡ false). omega (arith, words-exact n (ltb-false n wordFlags b)))
       (either (ltb n wordFlags))
 
@@ -143,4 +156,5 @@ module _ (rows : List ℕ) (root n width base start : ℕ) where
       let e : wordBits * wordsOf n ≡ 2 ^ n + (wordBits * wordsOf n - 2 ^ n) = omega arith in
       ap (falseFrom v base) e ∙ false-parts v base (2 ^ n) (wordBits * wordsOf n - 2 ^ n)
       ∙ (rw (false-none v (base + 2 ^ n) (wordBits * wordsOf n - 2 ^ n) (λ s p q. row-dead s (omega arith))) (append-nil (falseFrom v base (2 ^ n))))
-      ∙ since-same start (rowValue rows root n width base) (λ s. literalValue (inRow rows width (s - base)) root) base (2 ^ n) (λ s p q. row-live s (omega arith))
+      ∙ since-same start (rowValue rows root n width base) (λ s. literalValue (inRow rows width (s - base)) root) base (2 ^ n)
+      (λ s p q. row-live s (omega arith))

@@ -67,7 +67,8 @@ module _ (word base from : ℕ) (out₀ out : List ℕ) (rest at m : ℕ) (i : R
     rest-within = omega (arith, lowest-found (base + wordBits - at) wordBits rest (omega (arith, i .lower)) (i .small) n, i .upper)
 
     rest-next : falseFrom (marked rest at) at (base + wordBits - at)
-        ≡ (at + trailingZeros wordBits rest) ∷ falseFrom (marked (rest / 2 ^ trailingZeros wordBits rest / 2) (at + trailingZeros wordBits rest + 1)) (at + trailingZeros wordBits rest + 1) (base + wordBits - (at + trailingZeros wordBits rest + 1))
+        ≡ (at + trailingZeros wordBits rest) ∷ falseFrom (marked (rest / 2 ^ trailingZeros wordBits rest / 2) (at + trailingZeros wordBits rest + 1))
+        (at + trailingZeros wordBits rest + 1) (base + wordBits - (at + trailingZeros wordBits rest + 1))
     rest-next =
         word-next rest at (base + wordBits - at) (base + wordBits - (at + trailingZeros wordBits rest + 1)) (trailingZeros wordBits rest) (lowest wordBits rest)
         (omega (arith, rest-within, i .lower)) (omega (arith, rest-within, i .upper))
@@ -81,7 +82,8 @@ module _ (word base from : ℕ) (out₀ out : List ℕ) (rest at m : ℕ) (i : R
         let e : base + wordBits - at ≡ base + wordBits - (at + t + 1) + (t + 1) = omega (arith, rest-within, i .upper) in
         rw (shr-shr rest t 1) (shr-lt (base + wordBits - (at + t + 1)) (t + 1) (rw e at (i .small)))
 
-    pub rest-more : (m ≡ length out → ⊥) → Rest word base from out₀ (set out m (at + trailingZeros wordBits rest)) (rest / 2 ^ trailingZeros wordBits rest / 2) (at + trailingZeros wordBits rest + 1) (m + 1)
+    pub rest-more : (m ≡ length out → ⊥) → Rest word base from out₀ (set out m (at + trailingZeros wordBits rest))
+        (rest / 2 ^ trailingZeros wordBits rest / 2) (at + trailingZeros wordBits rest + 1) (m + 1)
     rest-more f =
         let t : ℕ = trailingZeros wordBits rest in
         let h : m < length out = omega (arith, i .room) in

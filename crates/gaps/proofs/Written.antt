@@ -87,7 +87,11 @@ pub writes-one : (out : List ℕ) (m s : ℕ) (l : List ℕ) (r : Found) (after 
 writes-one out m s l r after h w =
     let e : take (m + 1) (set out m s) ++ l ≡ take m out ++ (s ∷ l) = rw (add-one, take-suc-set) (append-assoc (take m out) (s ∷ []) l) in
     let f : length (set out m s) ≡ length out = length-set out m s in
-    record { answers = rw (e, f) at (w .answers); holds = (rw e at (w .holds)) ∙ placed-set out m s (take m out ++ (s ∷ l)) (rw (length-append, length-take-le m out (omega arith)) (omega arith)) }
+    record {
+      answers = rw (e, f) at (w .answers);
+      holds = (rw e at (w .holds)) ∙ placed-set out m s (take m out ++ (s ∷ l))
+          (rw (length-append, length-take-le m out (omega arith)) (omega arith));
+    }
 
 -- the slice is full
 pub writes-full : (out : List ℕ) (m s : ℕ) (l : List ℕ) → m ≡ length out → Writes out m (s ∷ l) (More m s) out
@@ -104,7 +108,8 @@ placed-then : (out l l′ : List ℕ) → length l ≤ length out → placed (l 
 unfolding placed
 placed-then out l l′ h =
     let n : length (l ++ drop (length l) out) ≡ length out = rw (length-append, length-drop) (omega arith) in
-    let d : drop (length (l ++ l′)) (l ++ drop (length l) out) ≡ drop (length (l ++ l′)) out = rw (length-append l l′, drop-append-add l (drop (length l) out) (length l′), drop-drop (length l′) (length l) out) in
+    let d : drop (length (l ++ l′)) (l ++ drop (length l) out) ≡ drop (length (l ++ l′)) out = rw
+    (length-append l l′, drop-append-add l (drop (length l) out) (length l′), drop-drop (length l′) (length l) out) in
     rw (n, d)
 
 -- one list after another
@@ -131,8 +136,10 @@ writes-stop out after m k x l l′ w =
     let e : take m out ++ (l ++ l′) ≡ all ++ l′ = sym (append-assoc (take m out) l l′) in
     let b : length out < length (all ++ l′) = rw length-append (omega arith) in
     record {
-      answers = rw e (w .answers ∙ found-more out all h ∙ sym (found-more out (all ++ l′) b ∙ ap (More (length out)) (List·getD-append all l′ 0 (length out) h)));
-      holds = rw e (w .holds ∙ placed-more out all (omega arith) ∙ sym (placed-more out (all ++ l′) (omega arith) ∙ take-append-le (length out) all l′ (omega arith)));
+      answers = rw e (w .answers ∙ found-more out all h ∙ sym
+          (found-more out (all ++ l′) b ∙ ap (More (length out)) (List·getD-append all l′ 0 (length out) h)));
+      holds = rw e (w .holds ∙ placed-more out all (omega arith) ∙ sym
+          (placed-more out (all ++ l′) (omega arith) ∙ take-append-le (length out) all l′ (omega arith)));
     }
 
 -- where all were written, they stand within the slice

@@ -97,7 +97,8 @@ pub fn write_row(
 ) -> Found
     requires { ⌜ (n < wordBits) × (2 ^ n ≤ wordBits * width) × (base + wordBits * width + wordBits ≤ 2 ^ 32) ⌝ }
     requires { ⌜ (root + 1 < 2 ^ 16) × (suc (root / 2) * width ≤ length (now rows)) × (from ≤ length (now out)) ⌝ }
-    ensures { λ r. ⌜ Writes (now (out .entry)) from (falseFrom (since start (λ s. literalValue (inRow (now (rows .entry)) width (s - base)) root)) base (2 ^ n)) r (now (out .exit)) ⌝ }
+    ensures { λ r. ⌜ Writes (now (out .entry)) from (falseFrom (since start (λ s. literalValue (inRow (now (rows .entry)) width (s - base)) root)) base
+        (2 ^ n)) r (now (out .exit)) ⌝ }
 {
     let x = ((root / 2) as usize) * width;
     let t = turn(root + 1);

@@ -40,7 +40,8 @@ pub too-long : (text : List ℕ) (depth : ℕ) → textCeiling < length text →
 too-long text depth h = says text depth (refusal 1 textCeiling) _ (asks-long text depth h) refl
 
 -- a depth over its ceiling
-pub too-deep : (text : List ℕ) (depth : ℕ) → length text ≤ textCeiling → depthCeiling < depth → CheckSays text depth (Refused (record { number = 2; place = 0 }))
+pub too-deep : (text : List ℕ) (depth : ℕ) → length text ≤ textCeiling → depthCeiling < depth → CheckSays text depth
+    (Refused (record { number = 2; place = 0 }))
 too-deep text depth h d = says text depth (refusal 2 0) _ (asks-deep text depth h d) refl
 
 -- a guard in the tables is one that can be decided

@@ -115,7 +115,8 @@ module _ (xs : List ℕ) (c n root : ℕ) (from : FromGuard xs c n root) where
       (full-covered (Flags n) n g proper (λ f d. d) k h
       (λ s b. sym (its-value s) ∙ none-of (rootValue n xs c root) 0 (2 ^ n - 0) e s (omega arith) (omega arith))))
   fully (s ∷ l) e k h =
-      let p : (0 ≤ s) × (s < 0 + (2 ^ n - 0)) × (rootValue n xs c root s ≡ false) × ((t : ℕ) → 0 ≤ t → t < s → rootValue n xs c root t ≡ true) =
+      let p : (0 ≤ s) × (s < 0 + (2 ^ n - 0)) × (rootValue n xs c root s ≡ false)
+      × ((t : ℕ) → 0 ≤ t → t < s → rootValue n xs c root t ≡ true) =
       first-of (rootValue n xs c root) 0 (2 ^ n - 0) s l e in
       rw (found-one s l)
       (its-answer k (Gap s)

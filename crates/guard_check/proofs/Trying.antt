@@ -40,7 +40,8 @@ both-ways A f r p q =
     r .transitive 0 (2 * f + 1) 1 (r .symmetric (2 * f + 1) 0 q) (rw (negation-even f) at (r .negating (2 * f) 0 p))
 
 -- what is stable and holds l already is its own saturation with l taken as true
-saturated-itself : (D : ℕ → Type 0) (ts : List Triplet) (k l : ℕ) (R : Rel) → IsRelation R → Stable D ts k R → R l 0 ≡ true → SaturationOf D ts k (taking R l) R
+saturated-itself : (D : ℕ → Type 0) (ts : List Triplet) (k l : ℕ) (R : Rel) → IsRelation R → Stable D ts k R → R l 0 ≡ true → SaturationOf D
+    ts k (taking R l) R
 saturated-itself D ts k l R r s e =
     record {
       relation = r;
@@ -99,7 +100,8 @@ module _ (numbers : List ℕ) (c n k : ℕ) where
           refuted = (λ h. absurd (omega arith), λ h. absurd (never (kept offs 0 1) (low-held .1 h) e));
         }
 
-    pub tested-high : (on ons : List ℕ) → kept offs 0 1 ≡ true → Joined (inUse c) xs (2 * f) 0 on → SaturatedTo numbers c n k on ons → Tested numbers c n k f xs 1 ons
+    pub tested-high : (on ons : List ℕ) → kept offs 0 1 ≡ true → Joined (inUse c) xs (2 * f) 0 on → SaturatedTo numbers c n k on ons → Tested
+        numbers c n k f xs 1 ons
     tested-high on ons e with-it high =
         record {
           bit = omega arith;
@@ -119,7 +121,8 @@ module _ (numbers : List ℕ) (c n k : ℕ) where
     fresh-below : (fs : List ℕ) → Fresh fs → (A : Rel) → IsRelation A → Within (kept fs) A
     fresh-below fs h A r l m e = rw (eqb-true l m (sym (h .only l m) ∙ e)) (r .reflexive m)
 
-    pub trying-start : (fs js xs : List ℕ) (l : ℕ) → l ≡ negation root → Fresh fs → Joined (inUse c) fs l 0 js → SaturatedTo numbers c n k js xs → Trying 0 0 xs
+    pub trying-start : (fs js xs : List ℕ) (l : ℕ) → l ≡ negation root → Fresh fs → Joined (inUse c) fs l 0 js → SaturatedTo numbers c n k js xs
+        → Trying 0 0 xs
     unfolding flagsAs
     trying-start fs js xs l e h j s =
         let all : SaturationOf (Flags n) ts k (taking (kept fs) (negation root)) (kept xs) =
@@ -157,7 +160,8 @@ module _ (numbers : List ℕ) (c n k : ℕ) where
           λ s. both .1 (λ A r w h. s A r (turned-taken A l ls w) h),
         )
 
-    next-state : (i s b : ℕ) (xs ys : List ℕ) → Trying i s xs → Tested numbers c n k (suc i) xs b ys → (s′ : ℕ) → s′ / 2 ≡ s → s′ % 2 ≡ b → Trying (suc i) s′ ys
+    next-state : (i s b : ℕ) (xs ys : List ℕ) → Trying i s xs → Tested numbers c n k (suc i) xs b ys → (s′ : ℕ) → s′ / 2 ≡ s → s′ % 2
+        ≡ b → Trying (suc i) s′ ys
     unfolding flagsAs
     next-state i s b xs ys t h s′ p q =
         record {
@@ -193,7 +197,8 @@ module _ (numbers : List ℕ) (c n k : ℕ) where
     unfolding flagsAs
     not-covered xs t e r = never (kept xs 0 1) (refuted-held (Flags n) ts root k [] (kept xs) (t .saturated) .1 r) e
 
-    pub decided-gap : (i s : ℕ) (xs ys : List ℕ) → i ≡ n → Trying 0 0 xs → kept xs 0 1 ≡ false → Trying i s ys → kept ys 0 1 ≡ false → Decided numbers c n root k (Gap s)
+    pub decided-gap : (i s : ℕ) (xs ys : List ℕ) → i ≡ n → Trying 0 0 xs → kept xs 0 1 ≡ false → Trying i s ys → kept ys 0 1 ≡ false
+        → Decided numbers c n root k (Gap s)
     decided-gap i s xs ys j t e u d =
         let last : Trying n s ys = rw j at u in (
           not-covered xs t e,
@@ -201,7 +206,8 @@ module _ (numbers : List ℕ) (c n k : ℕ) where
           λ r. never (kept ys 0 1) (refuted-held (Flags n) ts root k (flagsAs n s) (kept ys) (last .saturated) .1 r) d,
         )
 
-    pub decided-undecided : (i s : ℕ) (xs ys : List ℕ) → i ≡ n → Trying 0 0 xs → kept xs 0 1 ≡ false → Trying i s ys → kept ys 0 1 ≡ true → Decided numbers c n root k Undecided
+    pub decided-undecided : (i s : ℕ) (xs ys : List ℕ) → i ≡ n → Trying 0 0 xs → kept xs 0 1 ≡ false → Trying i s ys → kept ys 0 1 ≡ true
+        → Decided numbers c n root k Undecided
     decided-undecided i s xs ys j t e u d =
         let last : Trying n s ys = rw j at u in (
           not-covered xs t e,

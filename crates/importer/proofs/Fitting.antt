@@ -57,7 +57,8 @@ judged-fits (accepted u m) g f = f
 places-fit : (text : List ℕ) → PlacesFit (reading text)
 unfolding reading
 places-fit text =
-    choose-has (λ (x : Reading). PlacesFit x) (leb (length text) textCeiling) (judged (walk operand 0 [] 0 (tokens text)) (tree (tokens text))) (refusal 1 textCeiling)
+    choose-has (λ (x : Reading). PlacesFit x) (leb (length text) textCeiling) (judged (walk operand 0 [] 0 (tokens text)) (tree (tokens text)))
+    (refusal 1 textCeiling)
     (λ h. judged-fits (walk operand 0 [] 0 (tokens text)) (tree (tokens text)) (text-fits text (leb-true (length text) textCeiling h)))
     (λ h. (omega arith, omega arith))
 
@@ -87,8 +88,10 @@ refusal-fits k p f = record { number = f .0; place = f .1 }
 asked-fits : (text : List ℕ) (depth : ℕ) → ReadingFits (asked text depth)
 unfolding asked
 asked-fits text depth =
-    choose-has (λ (x : Reading). ReadingFits x) (leb (length text) textCeiling) (choose (leb depth depthCeiling) (reading text) (refusal 2 0)) (refusal 1 textCeiling)
-    (λ h. choose-has (λ (x : Reading). ReadingFits x) (leb depth depthCeiling) (reading text) (refusal 2 0) (λ e. reading-fits text) (λ e. (omega arith, omega arith)))
+    choose-has (λ (x : Reading). ReadingFits x) (leb (length text) textCeiling) (choose (leb depth depthCeiling) (reading text) (refusal 2 0))
+    (refusal 1 textCeiling)
+    (λ h. choose-has (λ (x : Reading). ReadingFits x) (leb depth depthCeiling) (reading text) (refusal 2 0) (λ e. reading-fits text)
+    (λ e. (omega arith, omega arith)))
     (λ h. (omega arith, omega arith))
 
 says-fits : (x : Reading) (depth : ℕ) (v : Verdict) → ReadingFits x → ReadingSays x depth v → VerdictFits v
@@ -109,7 +112,8 @@ evaluated-fits : (x : Reading) (state : ℕ) → ReadingFits x → EvaluationFit
 unfolding evaluated
 evaluated-fits (refusal k p) state f = refusal-fits k p f
 evaluated-fits (guard g u) state f =
-    choose-has (λ (e : Evaluation). EvaluationFits e) (ltb state (2 ^ length u)) (evaluation.Value (value (length u) state g)) (evaluation.Refused (record { number = 9; place = 0 }))
+    choose-has (λ (e : Evaluation). EvaluationFits e) (ltb state (2 ^ length u)) (evaluation.Value (value (length u) state g))
+    (evaluation.Refused (record { number = 9; place = 0 }))
     (λ h. tt) (λ h. refusal-fits 9 0 (omega arith, omega arith))
 
 pub evaluate-fits : (text : List ℕ) (state : ℕ) (r : Evaluation) → r ≡ evaluated (reading text) state → EvaluationFits r
@@ -134,7 +138,8 @@ unfolding falseFrom
 false-below v lo zero i h = h
 false-below v lo (suc k) i h =
     ⊎-elim (λ (e : v lo ≡ true). rw (false-not v lo k e) (omega (arith, false-below v (suc lo) k i (omega arith))))
-    (λ (e : v lo ≡ false). rw (false-one v lo k e) (first-or-later (falseFrom v (suc lo) k) lo (suc k) i (omega arith) (λ j. omega (arith, false-below v (suc lo) k j (omega arith)))))
+    (λ (e : v lo ≡ false). rw (false-one v lo k e) (first-or-later (falseFrom v (suc lo) k) lo (suc k) i (omega arith)
+    (λ j. omega (arith, false-below v (suc lo) k j (omega arith)))))
     (either (v lo))
 
 found-fits : (n : ℕ) (g : Guard) (start room : ℕ) → n ≤ flagCeiling → start < 2 ^ n → FoundFits (writing.found (gapsFrom n g start) room)
@@ -145,13 +150,15 @@ found-fits n g start room few h =
     let l : List ℕ = falseFrom v start (2 ^ n - start) in
     let many : length l ≤ 2 ^ n - start = false-few v start (2 ^ n - start) in
     let next : getD l room 0 < start + (2 ^ n - start) = false-below v start (2 ^ n - start) room (omega arith) in
-    choose-has (λ (x : Found). FoundFits x) (leb (length l) room) (found.Done (length l)) (found.More room (getD l room 0)) (λ e. omega arith) (λ e. omega arith)
+    choose-has (λ (x : Found). FoundFits x) (leb (length l) room) (found.Done (length l)) (found.More room (getD l room 0)) (λ e. omega arith)
+    (λ e. omega arith)
 
 listed-fits : (x : Reading) (start room : ℕ) → ReadingFits x → ListingFits (listed x start room)
 unfolding listed
 listed-fits (refusal k p) start room f = refusal-fits k p f
 listed-fits (guard g u) start room f =
-    choose-has (λ (x : Listing). ListingFits x) (ltb start (2 ^ length u)) (listing.Gaps (writing.found (gapsFrom (length u) g start) room)) (listing.Refused (record { number = 9; place = 0 }))
+    choose-has (λ (x : Listing). ListingFits x) (ltb start (2 ^ length u)) (listing.Gaps (writing.found (gapsFrom (length u) g start) room))
+    (listing.Refused (record { number = 9; place = 0 }))
     (λ h. found-fits (length u) g start room (f .flags) (ltb-true start (2 ^ length u) h)) (λ h. refusal-fits 9 0 (omega arith, omega arith))
 
 pub list-fits : (text : List ℕ) (start room : ℕ) (r : Listing) → r ≡ listed (reading text) start room → ListingFits r

@@ -17,7 +17,8 @@ pub list-unique : (text : List ℕ) (start : ℕ) (out : List ℕ) (r s : ℕ) (
     → ListAnswers text start out r after → ListAnswers text start out s later → (r ≡ s) × (after ≡ later)
 list-unique text start out r s after later a b = (a .number ∙ sym (b .number), a .holds ∙ sym (b .holds))
 
-pub read-unique : (text room : List ℕ) (r s : ℕ) (after later : List ℕ) → ReadAnswers text room r after → ReadAnswers text room s later → (r ≡ s) × (after ≡ later)
+pub read-unique : (text room : List ℕ) (r s : ℕ) (after later : List ℕ) → ReadAnswers text room r after → ReadAnswers text room s later
+    → (r ≡ s) × (after ≡ later)
 read-unique text room r s after later a b = (a .number ∙ sym (b .number), a .holds ∙ sym (b .holds))
 
 pub name-unique : (text : List ℕ) (i r s : ℕ) → r ≡ nameNumber text i → s ≡ nameNumber text i → r ≡ s

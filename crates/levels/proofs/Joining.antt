@@ -65,13 +65,15 @@ module _ (s : Sign) (next : Level) (d k : ℕ) (text : List ℕ) (at : At) (code
           ≡ walk operand d (flagsAt text codes to) (to .signs) (ahead text (to .token))
       walked-on =
           l .chain .walked
-          ∙ past-sign s d (flagsAt text codes (left .at)) (left .at .signs) (ahead text (left .at .token)) (sign-ahead s text (left .at) true sign) (past-it .1)
+          ∙ past-sign s d (flagsAt text codes (left .at)) (left .at .signs) (ahead text (left .at .token)) (sign-ahead s text (left .at) true sign)
+          (past-it .1)
           ∙ ap (λ (n : ℕ). walk operand d (flagsIn text codes n) (left .at .signs + 1) (past (ahead text (left .at .token)))) (sym (past-it .0 .flags))
           ∙ ap (λ (n : ℕ). walk operand d (flagsAt text codes to) n (past (ahead text (left .at .token)))) (sym (past-it .0 .signs))
           ∙ ap (λ (ts : Tokens). walk operand d (flagsAt text codes to) (to .signs) ts) (past-it .0 .tokens)
 
       -- the operand after the sign is refused
-      pub so-far-no-operand : (f : Refusal) → walk operand d (flagsAt text codes to) (to .signs) (ahead text (to .token)) ≡ refused (f .number) (f .place) →
+      pub so-far-no-operand : (f : Refusal) → walk operand d (flagsAt text codes to) (to .signs) (ahead text (to .token)) ≡ refused (f .number) (f .place)
+          →
           walk operand d (flagsAt text codes₀ at) (at .signs) (ahead text (at .token)) ≡ refused (f .number) (f .place)
       so-far-no-operand f h = walked-on ∙ h
 

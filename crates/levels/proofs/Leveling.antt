@@ -33,7 +33,8 @@ past-sign s d u m (at p opening ts) e h = absurd (true≢false (sym e))
 past-sign s d u m (at p closing ts) e h = absurd (true≢false (sym e))
 
 -- what is read of a chain of operands joined by s so far: the guard g, with room for as many more as the ceiling leaves
-pub record Chain (s : Sign) (next : Level) (d k : ℕ) (u₀ : List Flag) (m₀ : ℕ) (ts₀ : Tokens) (g : Guard) (u : List Flag) (m : ℕ) (ts : Tokens) : Type 0 where
+pub record Chain (s : Sign) (next : Level) (d k : ℕ) (u₀ : List Flag) (m₀ : ℕ) (ts₀ : Tokens) (g : Guard) (u : List Flag) (m : ℕ) (ts : Tokens) :
+    Type 0 where
   pub room : ℕ
   pub enough : connectiveCeiling ≤ room + m
   pub parsed : leftLevel s next u₀ ts₀ ≡ toTheLeft s next room g u ts
@@ -53,7 +54,8 @@ bound or = refl
 bound and = refl
 
 -- where neither s nor a tighter sign stands next, no sign up to that of s does
-stops-more : (s : Sign) (k : ℕ) (ts : Tokens) → binding s ≡ k + 1 → signNext s ts ≡ false → ((t : Sign) → binding t ≤ k → signNext t ts ≡ false) →
+stops-more : (s : Sign) (k : ℕ) (ts : Tokens) → binding s ≡ k + 1 → signNext s ts ≡ false
+    → ((t : Sign) → binding t ≤ k → signNext t ts ≡ false) →
     (t : Sign) → binding t ≤ k + 1 → signNext t ts ≡ false
 stops-more s k ts b e f t h =
     ⊎-elim
@@ -95,7 +97,8 @@ module _ (s : Sign) (next : Level) where
 
 module _ (s : Sign) (next : Level) (d k : ℕ) (u₀ : List Flag) (m₀ : ℕ) (ts₀ : Tokens) where
   -- the first operand
-  pub chain-first : {g : Guard} {u : List Flag} {m : ℕ} {ts : Tokens} → Reads (plain next) d k u₀ m₀ ts₀ g u m ts → Chain s next d k u₀ m₀ ts₀ g u m ts
+  pub chain-first : {g : Guard} {u : List Flag} {m : ℕ} {ts : Tokens} → Reads (plain next) d k u₀ m₀ ts₀ g u m ts → Chain s next d k u₀ m₀
+      ts₀ g u m ts
   unfolding leftLevel follow
   chain-first r = record {
     room = connectiveCeiling;
@@ -125,7 +128,8 @@ module _ (s : Sign) (next : Level) (d k : ℕ) (u₀ : List Flag) (m₀ : ℕ) (
   chain-more c e l r = one-more c (c .room - 1) (omega (arith, c .enough)) e l r
 
   -- where no further sign stands, the chain is read
-  pub chain-done : {g : Guard} {u : List Flag} {m : ℕ} {ts : Tokens} → Chain s next d k u₀ m₀ ts₀ g u m ts → signNext s ts ≡ false → binding s ≡ k + 1 →
+  pub chain-done : {g : Guard} {u : List Flag} {m : ℕ} {ts : Tokens} → Chain s next d k u₀ m₀ ts₀ g u m ts → signNext s ts ≡ false → binding s
+      ≡ k + 1 →
       Reads (plain (leftLevel s next)) d (k + 1) u₀ m₀ ts₀ g u m ts
   chain-done {g} {u} {m} {ts} c e b = record {
     parsed = λ f _. c .parsed ∙ left-done s next (c .room) g u ts e;
@@ -135,7 +139,8 @@ module _ (s : Sign) (next : Level) (d k : ℕ) (u₀ : List Flag) (m₀ : ℕ) (
   }
 
   -- a single operand, where the sign that groups to the right does not follow
-  pub right-one : {g : Guard} {u : List Flag} {m : ℕ} {ts : Tokens} → Reads (plain next) d k u₀ m₀ ts₀ g u m ts → signNext s ts ≡ false → binding s ≡ k + 1 →
+  pub right-one : {g : Guard} {u : List Flag} {m : ℕ} {ts : Tokens} → Reads (plain next) d k u₀ m₀ ts₀ g u m ts → signNext s ts ≡ false
+      → binding s ≡ k + 1 →
       Reads (toTheRight s next) d (k + 1) u₀ m₀ ts₀ g u m ts
   right-one {g} {u} {m} {ts} r e b = record {
     parsed = λ f h. right-done s next f u₀ ts₀ g u ts (r .parsed f h) e;

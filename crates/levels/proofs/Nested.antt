@@ -151,7 +151,8 @@ module _ {text p₀ p : List ℕ} {odd : ℕ} {bang : Bool} (b : Banged text p�
         (subst (λ (x : ℕ). FoundPart (plain (operandsAt d)) d 0 text (place p₀) codes out (part x p′) codes′ out′) (sym f)
         (behind-found text (place p₀) (place p) odd (b .passed) codes d out (h .found l e))) (still-twice (still-same (b .waits)) (h .still l e)) (h .rooms)
 
-pub banged-none : {text p : List ℕ} {d : ℕ} {codes out wait : List ℕ} → Asks text p d codes out wait → {bang : Bool} → bang ≡ bangs (kindOf (getD p 0 0)) →
+pub banged-none : {text p : List ℕ} {d : ℕ} {codes out wait : List ℕ} → Asks text p d codes out wait → {bang : Bool} → bang ≡ bangs
+    (kindOf (getD p 0 0)) →
     Banged text p p 0 bang
 banged-none {text} {p} a e = record { passed = bangs-none text (place p) (a .standing .token); test = e; waits = refl; room = a .rooms .numbers }
 
@@ -161,7 +162,8 @@ module _ {text p : List ℕ} {d : ℕ} {codes out wait : List ℕ} (a : Asks tex
       (plain (operandsAt d)) d 0 text p codes out wait r p′ codes out wait
   too-deep {r} {p′} l h =
       says-refused (h .refused)
-      (bracket-refused text (place p) k d _ _ l ∙ ap (λ (z : ℕ). refused z (getD p 1 0)) (sym (h .number)) ∙ ap (refused (getD p′ 6 0)) (sym (h .start)))
+      (bracket-refused text (place p) k d _ _ l ∙ ap (λ (z : ℕ). refused z (getD p 1 0)) (sym (h .number)) ∙ ap (refused (getD p′ 6 0))
+      (sym (h .start)))
       (rooms-as (a .rooms) (h .kept .room))
 
   pub asks-past : (length p ≡ placeRoom) × (TokenFits text (tokenIn p) × (ends (kindOf (getD p 0 0)) ≡ false))

@@ -94,7 +94,8 @@ module _ (text : List ℕ) (at : At) (k : at .token .kind ≡ kind.Opening) (d :
       count = omega (arith, a .count, a .signs, st .count);
     }
 
-    module _ {part : Part} {codes′ out′ : List ℕ} (p : FoundPart (plain (sameOf (operandsAt (d + 1)))) (d + 1) 4 text inside codes out part codes′ out′) where
+    module _ {part : Part} {codes′ out′ : List ℕ} (p : FoundPart (plain (sameOf (operandsAt (d + 1)))) (d + 1) 4 text inside codes out part codes′
+        out′) where
       -- no closing bracket follows
       pub never-closed : (f : Refusal) → ((e : ℕ) (u : List Flag) (m : ℕ) → walk after (suc e) u m (ahead text (part .at .token)) ≡ refused
           (f .number) (f .place)) →
@@ -216,7 +217,8 @@ module _ (text : List ℕ) (at here : At) (odd : ℕ) (b : Bangs text at here od
   bang-is : ahead text (here .token) ≡ token-at (here .token .start) bang (past (ahead text (here .token)))
   bang-is = ahead-bang (here .token .kind) text (here .token .start) (here .token .next) k
 
-  bang-parsed : (inner : Level) (u : List Flag) (g : Guard) (v : List Flag) (us : Tokens) → operandOf inner u (past (ahead text (here .token))) ≡ found g v us →
+  bang-parsed : (inner : Level) (u : List Flag) (g : Guard) (v : List Flag) (us : Tokens) → operandOf inner u (past (ahead text (here .token))) ≡ found g
+      v us →
       operandOf inner u (ahead text (here .token)) ≡ found (negated g) v us
   unfolding operandOf follow
   bang-parsed inner u g v us e = ap (operandOf inner u) bang-is ∙ ap (λ (x : Parsed). follow x (λ y w ws. found (negated y) w ws)) e
@@ -278,7 +280,8 @@ module _ (text : List ℕ) (at here : At) (odd : ℕ) (b : Bangs text at here od
   behind-refused d f e = here-walked d ∙ e
 
   -- the operand behind them, turned
-  pub behind-found : (d : ℕ) (out : List ℕ) {p : Part} {codes′ out′ : List ℕ} → FoundPart (plain (operandsAt d)) d 0 text here codes out p codes′ out′ →
+  pub behind-found : (d : ℕ) (out : List ℕ) {p : Part} {codes′ out′ : List ℕ} → FoundPart (plain (operandsAt d)) d 0 text here codes out p
+      codes′ out′ →
       FoundPart (plain (operandsAt d)) d 0 text at codes out (record { literal = signed (p .literal) odd; at = p .at }) codes′ out′
   behind-found d out {p} {codes′} {out′} r =
       let t = b .parsed (inBrackets (bracketCeiling - d)) (flagsIn text codes (here .flags)) (r .guard) (flagsIn text codes′ (p .at .flags))
@@ -292,7 +295,8 @@ module _ (text : List ℕ) (at here : At) (odd : ℕ) (b : Bangs text at here od
           stops = r .reads .stops;
         };
         writes = record {
-          literal = ap (λ (l : ℕ). signed l odd) (r .writes .literal ∙ ap (λ (n : ℕ). literal n (r .guard)) (b .count)) ∙ sym (t .2 .literally (at .count));
+          literal = ap (λ (l : ℕ). signed l odd) (r .writes .literal ∙ ap (λ (n : ℕ). literal n (r .guard)) (b .count)) ∙ sym
+              (t .2 .literally (at .count));
           small = signed-small odd (p .literal) (b .parity) (r .writes .small);
           count = omega (arith, r .writes .count, b .count, t .2 .plainly);
           written = r .writes .written ∙ ap (λ (n : ℕ). take (3 * n) out ++ numbers (triplets n (r .guard))) (b .count) ∙ ap

@@ -39,7 +39,8 @@ same-found l m r e f = cc
 
 module _ {L : ℕ → Level} {d k : ℕ} {text p codes out wait : List ℕ} {r : Answer} {p′ codes′ out′ wait′ : List ℕ} where
   -- an operand was found
-  pub says-found : {l : ℕ} → r ≡ answer.Found l → FoundPart L d k text (place p) codes out (part l p′) codes′ out′ → Still p wait p′ wait′ →
+  pub says-found : {l : ℕ} → r ≡ answer.Found l → FoundPart L d k text (place p) codes out (part l p′) codes′ out′ → Still p wait p′ wait′
+      →
       Rooms p′ out′ wait′ →
       Says L d k text p codes out wait r p′ codes′ out′ wait′
   says-found {l} e f t n = record {
@@ -51,7 +52,8 @@ module _ {L : ℕ → Level} {d k : ℕ} {text p codes out wait : List ℕ} {r :
 
   -- none was
   pub says-refused : r ≡ answer.Refused →
-      walk operand d (flagsIn text codes (getD p 3 0)) (getD p 4 0) (ahead text (tokenIn p)) ≡ refused (getD p′ 6 0) (getD p′ 1 0) → Rooms p′ out′ wait′ →
+      walk operand d (flagsIn text codes (getD p 3 0)) (getD p 4 0) (ahead text (tokenIn p)) ≡ refused (getD p′ 6 0) (getD p′ 1 0) → Rooms p′ out′
+      wait′ →
       Says L d k text p codes out wait r p′ codes′ out′ wait′
   says-refused e w n = record { found = λ m h. never-answer m r h e; refused = λ h. w; still = λ m h. never-answer m r h e; rooms = n }
 
@@ -77,7 +79,8 @@ pub record Passed (s : Sign) (text p p₁ : List ℕ) : Type 0 where
   pub sign : kindIs s (kindOf (getD p 0 0)) ≡ true
   pub past : PassedSign text (place p) (place p₁)
 
-pub passed : {s : Sign} {text p p₁ : List ℕ} {r : Step} → kindIs s (kindOf (getD p 0 0)) ≡ true → PastSignSays text p r p₁ → r ≡ step.Taken → Passed s text p p₁
+pub passed : {s : Sign} {text p p₁ : List ℕ} {r : Step} → kindIs s (kindOf (getD p 0 0)) ≡ true → PastSignSays text p r p₁ → r ≡ step.Taken
+    → Passed s text p p₁
 passed k h e = record { sign = k; past = h .taken e }
 
 -- the chain that a sign joins, read so far from p₀ to p
@@ -85,11 +88,13 @@ pub record Sofar (s : Sign) (d : ℕ) (text p₀ codes₀ out₀ : List ℕ) (l 
   pub chain : SoFar s (belowOf s (operandsAt d)) d (tighter s) text (place p₀) codes₀ out₀ (part l p) codes out
 
 -- the first operand of a chain
-pub opened : {s : Sign} {d : ℕ} {text p codes out : List ℕ} {l : ℕ} {p₁ codes₁ out₁ : List ℕ} → First s d text p codes out l p₁ codes₁ out₁ →
+pub opened : {s : Sign} {d : ℕ} {text p codes out : List ℕ} {l : ℕ} {p₁ codes₁ out₁ : List ℕ} → First s d text p codes out l p₁ codes₁
+    out₁ →
     Sofar s d text p codes out l p₁ codes₁ out₁
 opened {s} {d} {text} {p} {codes} {out} f = record { chain = so-far-first s (belowOf s (operandsAt d)) d (tighter s) text (place p) codes out f }
 
-module _ {s : Sign} {d : ℕ} {text p₀ codes₀ out₀ : List ℕ} {l : ℕ} {p codes out : List ℕ} (so : Sofar s d text p₀ codes₀ out₀ l p codes out) where
+module _ {s : Sign} {d : ℕ} {text p₀ codes₀ out₀ : List ℕ} {l : ℕ} {p codes out : List ℕ}
+    (so : Sofar s d text p₀ codes₀ out₀ l p codes out) where
   -- what passing the sign asks
   pub asks-sign : kindIs s (kindOf (getD p 0 0)) ≡ true → TokenFits text (tokenIn p) × (joins (kindOf (getD p 0 0)) ≡ true)
   asks-sign k = (so .chain .standing .token, sign-joins s (kindOf (getD p 0 0)) k)
@@ -97,7 +102,8 @@ module _ {s : Sign} {d : ℕ} {text p₀ codes₀ out₀ : List ℕ} {l : ℕ} {
   -- the sign is refused
   pub sign-refused : {p₁ : List ℕ} {r : Step} → PastSignSays text p r p₁ → r ≡ step.Refused →
       walk operand d (flagsIn text codes₀ (getD p₀ 3 0)) (getD p₀ 4 0) (ahead text (tokenIn p₀)) ≡ refused (getD p₁ 6 0) (getD p₁ 1 0)
-  sign-refused {p₁} h e = so-far-no-sign s (belowOf s (operandsAt d)) d (tighter s) text (place p₀) codes₀ out₀ (so .chain) (refusalIn p₁) (h .refused e)
+  sign-refused {p₁} h e = so-far-no-sign s (belowOf s (operandsAt d)) d (tighter s) text (place p₀) codes₀ out₀ (so .chain) (refusalIn p₁)
+      (h .refused e)
 
   -- no sign follows: the chain is read
   pub chain-read : kindIs s (kindOf (getD p 0 0)) ≡ false →
@@ -130,7 +136,8 @@ module _ {s : Sign} {d : ℕ} {text p₀ codes₀ out₀ : List ℕ} {l : ℕ} {
       pub operand-refused : r ≡ answer.Refused →
           walk operand d (flagsIn text codes₀ (getD p₀ 3 0)) (getD p₀ 4 0) (ahead text (tokenIn p₀)) ≡ refused (getD p₂ 6 0) (getD p₂ 1 0)
       operand-refused e =
-          so-far-no-operand s (belowOf s (operandsAt d)) d (tighter s) text (place p₀) codes₀ out₀ (so .chain) (place p₁) (q .sign) (q .past) (refusalIn p₂)
+          so-far-no-operand s (belowOf s (operandsAt d)) d (tighter s) text (place p₀) codes₀ out₀ (so .chain) (place p₁) (q .sign) (q .past)
+          (refusalIn p₂)
           (h .refused e)
 
       module _ {m : ℕ} (e : r ≡ answer.Found m) where
@@ -164,12 +171,14 @@ module _ {s : Sign} {d : ℕ} {text p₀ codes₀ out₀ : List ℕ} {l : ℕ} {
     }
 
 -- the loop carries every chain on that was read up to its start
-pub record On (s : Sign) (d : ℕ) (text : List ℕ) (l₁ : ℕ) (p₁ codes₁ out₁ wait₁ : List ℕ) (l : ℕ) (p codes out wait : List ℕ) : Type 0 where
-  pub on : (p₀ codes₀ out₀ : List ℕ) → Sofar s d text p₀ codes₀ out₀ l₁ p₁ codes₁ out₁ → Sofar s d text p₀ codes₀ out₀ l p codes out
-  pub still : Still p₁ wait₁ p wait
-  pub waits : waiting p₁ ≤ getD p₁ 4 0 → waiting p ≤ getD p 4 0
-  pub rooms : Rooms p₁ out₁ wait₁ → Rooms p out wait
-  pub later : getD p₁ 1 0 ≤ getD p 1 0
+pub record On (s : Sign) (d : ℕ) (text : List ℕ) (l₁ : ℕ) (p₁ codes₁ out₁ wait₁ : List ℕ) (l : ℕ) (p codes out wait : List ℕ) : Type 0
+  where
+    pub on : (p₀ codes₀ out₀ : List ℕ) → Sofar s d text p₀ codes₀ out₀ l₁ p₁ codes₁ out₁ → Sofar s d text p₀ codes₀ out₀ l p
+        codes out
+    pub still : Still p₁ wait₁ p wait
+    pub waits : waiting p₁ ≤ getD p₁ 4 0 → waiting p ≤ getD p 4 0
+    pub rooms : Rooms p₁ out₁ wait₁ → Rooms p out wait
+    pub later : getD p₁ 1 0 ≤ getD p 1 0
 
 pub on-first : {s : Sign} {d : ℕ} {text : List ℕ} {l : ℕ} {p codes out wait : List ℕ} → On s d text l p codes out wait l p codes out wait
 on-first = record { on = λ p₀ codes₀ out₀ h. h; still = still-same refl; waits = λ h. h; rooms = λ h. h; later = omega arith }
@@ -177,7 +186,8 @@ on-first = record { on = λ p₀ codes₀ out₀ h. h; still = still-same refl; 
 module _ {s : Sign} {d : ℕ} {text : List ℕ} {l₁ : ℕ} {p₁ codes₁ out₁ wait₁ : List ℕ} {l : ℕ} {p codes out wait : List ℕ}
     (o : On s d text l₁ p₁ codes₁ out₁ wait₁ l p codes out wait) where
   -- a chain whose first operand was read up to the loop's start
-  pub carried : (p₀ codes₀ out₀ : List ℕ) → First s d text p₀ codes₀ out₀ l₁ p₁ codes₁ out₁ → Sofar s d text p₀ codes₀ out₀ l p codes out
+  pub carried : (p₀ codes₀ out₀ : List ℕ) → First s d text p₀ codes₀ out₀ l₁ p₁ codes₁ out₁ → Sofar s d text p₀ codes₀ out₀ l
+      p codes out
   carried p₀ codes₀ out₀ f = o .on p₀ codes₀ out₀ (opened f)
 
   module _ (b : Begun s d text l₁ p₁ codes₁ out₁ wait₁) where
@@ -188,16 +198,19 @@ module _ {s : Sign} {d : ℕ} {text : List ℕ} {l₁ : ℕ} {p₁ codes₁ out�
     rooms-here = o .rooms (b .rooms)
 
 -- what was written leaves the room as it was
-pub joined-room : {s : Sign} {l r w : ℕ} {p out : List ℕ} {x : ℕ} {p′ out′ wait : List ℕ} → JoinedSays s l r w p out x p′ out′ → Rooms p out wait →
+pub joined-room : {s : Sign} {l r w : ℕ} {p out : List ℕ} {x : ℕ} {p′ out′ wait : List ℕ} → JoinedSays s l r w p out x p′ out′ → Rooms p
+    out wait →
     Rooms p′ out′ wait
 joined-room g n = record { numbers = g .room; triplets = ap length (g .written) ∙ simp length-set (n .triplets); literals = n .literals }
 
 -- no more literals wait than signs were seen, behind an operand and behind a sign
-pub waits-on : {L : ℕ → Level} {d k : ℕ} {text p codes out wait : List ℕ} {r : Answer} {p′ codes′ out′ wait′ : List ℕ} {l : ℕ} → waiting p ≤ getD p 4 0 →
+pub waits-on : {L : ℕ → Level} {d k : ℕ} {text p codes out wait : List ℕ} {r : Answer} {p′ codes′ out′ wait′ : List ℕ} {l : ℕ} → waiting
+    p ≤ getD p 4 0 →
     Says L d k text p codes out wait r p′ codes′ out′ wait′ → r ≡ answer.Found l → waiting p′ ≤ getD p′ 4 0
 waits-on {l = l} w h e = omega (arith, w, h .still l e .waits, h .found l e .reads .signs)
 
-pub waits-past : {s : Sign} {text p p₁ : List ℕ} → waiting p ≤ getD p 4 0 → waiting p₁ ≡ waiting p → Passed s text p p₁ → waiting p₁ ≤ getD p₁ 4 0
+pub waits-past : {s : Sign} {text p p₁ : List ℕ} → waiting p ≤ getD p 4 0 → waiting p₁ ≡ waiting p → Passed s text p p₁ → waiting p₁
+    ≤ getD p₁ 4 0
 waits-past w e q = omega (arith, w, e, q .past .0 .signs)
 
 module _ (s : Sign) {d : ℕ} {text p₀ codes₀ out₀ wait₀ : List ℕ} {r : Answer} {p codes out wait : List ℕ} {l : ℕ}

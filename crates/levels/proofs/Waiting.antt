@@ -59,23 +59,27 @@ pub record Rising (s : Sign) (d : ℕ) (text p₀ codes₀ out₀ : List ℕ) (b
   pub waits : Waiting s d text p₀ codes₀ out₀ (held wait b k) q qcodes qout
   pub last : First s d text q qcodes qout l p codes out
 
-pub rising-first : {s : Sign} {d : ℕ} {text p₀ codes₀ out₀ : List ℕ} {b l : ℕ} {p codes out wait : List ℕ} → First s d text p₀ codes₀ out₀ l p codes out →
+pub rising-first : {s : Sign} {d : ℕ} {text p₀ codes₀ out₀ : List ℕ} {b l : ℕ} {p codes out wait : List ℕ} → First s d text p₀ codes₀
+    out₀ l p codes out →
     waiting p ≡ b → Rising s d text p₀ codes₀ out₀ b l p codes out wait
 unfolding held
 rising-first {p₀ = p₀} {codes₀ = codes₀} {out₀ = out₀} f e =
     record { k = 0; q = p₀; qcodes = codes₀; qout = out₀; here = omega (arith, e); waits = none; last = f }
 
-module _ {s : Sign} {d : ℕ} {text p₀ codes₀ out₀ : List ℕ} {b l : ℕ} {p codes out wait : List ℕ} (r : Rising s d text p₀ codes₀ out₀ b l p codes out wait) where
+module _ {s : Sign} {d : ℕ} {text p₀ codes₀ out₀ : List ℕ} {b l : ℕ} {p codes out wait : List ℕ}
+    (r : Rising s d text p₀ codes₀ out₀ b l p codes out wait) where
   -- the operand behind the last sign, as the first of a chain
   pub rising-opened : Sofar s d text (r .q) (r .qcodes) (r .qout) l p codes out
   rising-opened = opened (r .last)
 
-  pub rising-refused : {n m : ℕ} → walk operand d (flagsIn text (r .qcodes) (getD (r .q) 3 0)) (getD (r .q) 4 0) (ahead text (tokenIn (r .q))) ≡ refused n m →
+  pub rising-refused : {n m : ℕ} → walk operand d (flagsIn text (r .qcodes) (getD (r .q) 3 0)) (getD (r .q) 4 0) (ahead text (tokenIn (r .q))) ≡ refused
+      n m →
       walk operand d (flagsIn text codes₀ (getD p₀ 3 0)) (getD p₀ 4 0) (ahead text (tokenIn p₀)) ≡ refused n m
   rising-refused e = waiting-walked (r .waits) ∙ e
 
   -- it is set aside behind its sign, and the next operand is read
-  pub rising-more : {p₁ p₂ wait₂ : List ℕ} → Passed s text p p₁ → waiting p₁ ≡ waiting p → SetAside l p₁ wait p₂ wait₂ → Passed s text p p₂ →
+  pub rising-more : {p₁ p₂ wait₂ : List ℕ} → Passed s text p p₁ → waiting p₁ ≡ waiting p → SetAside l p₁ wait p₂ wait₂ → Passed s
+      text p p₂ →
       {m : ℕ} {p₃ codes₃ out₃ wait₃ : List ℕ} → First s d text p₂ codes out m p₃ codes₃ out₃ → Still p₂ wait₂ p₃ wait₃ →
       Rising s d text p₀ codes₀ out₀ b m p₃ codes₃ out₃ wait₃
   unfolding held
@@ -109,7 +113,8 @@ pub record Falling (s : Sign) (d : ℕ) (text p₀ codes₀ out₀ : List ℕ) (
   pub rest : FoundPart (toTheRight s (belowOf s (operandsAt d))) d (tighter s + 1) text (place q) qcodes qout (part j p) codes out
 
 -- where no sign follows, the last operand is the rest
-pub chain-ends : {s : Sign} {d : ℕ} {text p₀ codes₀ out₀ : List ℕ} {b l : ℕ} {p codes out wait : List ℕ} → Rising s d text p₀ codes₀ out₀ b l p codes out wait →
+pub chain-ends : {s : Sign} {d : ℕ} {text p₀ codes₀ out₀ : List ℕ} {b l : ℕ} {p codes out wait : List ℕ} → Rising s d text p₀ codes₀
+    out₀ b l p codes out wait →
     kindIs s (kindOf (getD p 0 0)) ≡ false → Falling s d text p₀ codes₀ out₀ b l p codes out wait
 chain-ends {s} {d} {text} r e = record {
   k = r .k;
@@ -131,7 +136,8 @@ record Last (s : Sign) (d : ℕ) (text p₀ codes₀ out₀ : List ℕ) (n : ℕ
   first : First s d text q qcodes qout n p₁ codes out
   pass : Passed s text p₁ p
 
-last-of : {s : Sign} {d : ℕ} {text p₀ codes₀ out₀ : List ℕ} {n : ℕ} {ls p codes out : List ℕ} → Waiting s d text p₀ codes₀ out₀ (n ∷ ls) p codes out →
+last-of : {s : Sign} {d : ℕ} {text p₀ codes₀ out₀ : List ℕ} {n : ℕ} {ls p codes out : List ℕ} → Waiting s d text p₀ codes₀ out₀
+    (n ∷ ls) p codes out →
     Last s d text p₀ codes₀ out₀ n ls p codes out
 last-of (more {ks} {q} {qcodes} {qout} {k} {p₁} w f g) = record { q = q; qcodes = qcodes; qout = qout; p₁ = p₁; waits = w; first = f; pass = g }
 
@@ -173,7 +179,8 @@ module _ {s : Sign} {d : ℕ} {text p₀ codes₀ out₀ : List ℕ} {b j : ℕ}
           here = omega (arith, g .waits, h, r .here);
           waits = t .waits;
           rest =
-              subst (λ (x : Part). FoundPart (toTheRight s (belowOf s (operandsAt d))) d (tighter s + 1) text (place (t .q)) (t .qcodes) (t .qout) x codes out₃)
+              subst (λ (x : Part). FoundPart (toTheRight s (belowOf s (operandsAt d))) d (tighter s + 1) text (place (t .q)) (t .qcodes) (t .qout) x codes
+              out₃)
               (sym (g .joined))
               (subst (λ (y : List ℕ). FoundPart (toTheRight s (belowOf s (operandsAt d))) d (tighter s + 1) text (place (t .q)) (t .qcodes) (t .qout)
               (joinedPart s (part j p)) codes y)
@@ -183,7 +190,8 @@ module _ {s : Sign} {d : ℕ} {text p₀ codes₀ out₀ : List ℕ} {b j : ℕ}
         }
 
   -- where none waits, the chain is read
-  pub all-joined : waiting p ≡ b → FoundPart (toTheRight s (belowOf s (operandsAt d))) d (tighter s + 1) text (place p₀) codes₀ out₀ (part j p) codes out
+  pub all-joined : waiting p ≡ b → FoundPart (toTheRight s (belowOf s (operandsAt d))) d (tighter s + 1) text (place p₀) codes₀ out₀ (part j p)
+      codes out
   unfolding held
   all-joined e =
       let z : r .k ≡ 0 = omega (arith, e, r .here) in
@@ -195,15 +203,18 @@ module _ {s : Sign} {d : ℕ} {text p₀ codes₀ out₀ : List ℕ} {b j : ℕ}
       at-first none x = x
 
 -- the first loop: every chain whose first operand was read up to its start has been carried on
-pub record Up (s : Sign) (d : ℕ) (text : List ℕ) (b l₁ : ℕ) (p₁ codes₁ out₁ wait₁ : List ℕ) (l : ℕ) (p codes out wait : List ℕ) : Type 0 where
-  pub up : (p₀ codes₀ out₀ : List ℕ) → First s d text p₀ codes₀ out₀ l₁ p₁ codes₁ out₁ → Rising s d text p₀ codes₀ out₀ b l p codes out wait
-  pub waits : waiting p ≤ getD p 4 0
-  pub least : b ≤ waiting p
-  pub others : (i : ℕ) → i < b → getD wait i 0 ≡ getD wait₁ i 0
-  pub rooms : Rooms p out wait
-  pub later : getD p₁ 1 0 ≤ getD p 1 0
+pub record Up (s : Sign) (d : ℕ) (text : List ℕ) (b l₁ : ℕ) (p₁ codes₁ out₁ wait₁ : List ℕ) (l : ℕ) (p codes out wait : List ℕ) : Type 0
+  where
+    pub up : (p₀ codes₀ out₀ : List ℕ) → First s d text p₀ codes₀ out₀ l₁ p₁ codes₁ out₁ → Rising s d text p₀ codes₀ out₀ b l p
+        codes out wait
+    pub waits : waiting p ≤ getD p 4 0
+    pub least : b ≤ waiting p
+    pub others : (i : ℕ) → i < b → getD wait i 0 ≡ getD wait₁ i 0
+    pub rooms : Rooms p out wait
+    pub later : getD p₁ 1 0 ≤ getD p 1 0
 
-pub up-first : {s : Sign} {d : ℕ} {text : List ℕ} {b l : ℕ} {p codes out wait : List ℕ} → waiting p ≡ b → waiting p ≤ getD p 4 0 → Rooms p out wait →
+pub up-first : {s : Sign} {d : ℕ} {text : List ℕ} {b l : ℕ} {p codes out wait : List ℕ} → waiting p ≡ b → waiting p ≤ getD p 4 0 → Rooms p
+    out wait →
     Up s d text b l p codes out wait l p codes out wait
 up-first e w n = record {
   up = λ p₀ codes₀ out₀ f. rising-first f e;
@@ -215,7 +226,8 @@ up-first e w n = record {
 }
 
 -- the place behind the sign, once the literal before it was set aside
-pub passed-aside : {s : Sign} {text p p₁ : List ℕ} {l : ℕ} {wait p₂ wait₂ : List ℕ} → Passed s text p p₁ → SetAside l p₁ wait p₂ wait₂ → Passed s text p p₂
+pub passed-aside : {s : Sign} {text p p₁ : List ℕ} {l : ℕ} {wait p₂ wait₂ : List ℕ} → Passed s text p p₁ → SetAside l p₁ wait p₂ wait₂
+    → Passed s text p p₂
 passed-aside {s} {text} {p} q a = record { sign = q .sign; past = subst (λ (x : At). PassedSign text (place p) x) (sym (a .stands)) (q .past) }
 
 module _ {s : Sign} {d : ℕ} {text : List ℕ} {b l₁ : ℕ} {p₁ codes₁ out₁ wait₁ : List ℕ} {l : ℕ} {p codes out wait : List ℕ}
@@ -226,14 +238,16 @@ module _ {s : Sign} {d : ℕ} {text : List ℕ} {b l₁ : ℕ} {p₁ codes₁ ou
 
   module _ {p₃ wait₃ : List ℕ} (a : SetAside l p₂ wait p₃ wait₃) where
     -- what the operand behind the sign asks
-    pub asks-next : {p₀ codes₀ out₀ : List ℕ} → Rising s d text p₀ codes₀ out₀ b l p codes out wait → d ≤ bracketCeiling → Asks text p₃ d codes out wait₃
+    pub asks-next : {p₀ codes₀ out₀ : List ℕ} → Rising s d text p₀ codes₀ out₀ b l p codes out wait → d ≤ bracketCeiling → Asks text
+        p₃ d codes out wait₃
     asks-next r c =
         asks-operand (rising-opened r) (passed-aside q a) (record { numbers = a .room; triplets = u .rooms .triplets; literals = a .table })
         (omega (arith, a .waits, w, u .waits, passed-aside q a .past .0 .signs)) c
 
     -- one more has been read
     pub up-more : {r : Answer} {p₄ codes₄ out₄ wait₄ : List ℕ} →
-        Says (plain (belowOf s (operandsAt d))) d (tighter s) text p₃ codes out wait₃ r p₄ codes₄ out₄ wait₄ → {m : ℕ} → r ≡ answer.Found m →
+        Says (plain (belowOf s (operandsAt d))) d (tighter s) text p₃ codes out wait₃ r p₄ codes₄ out₄ wait₄ → {m : ℕ} → r ≡ answer.Found
+        m →
         Up s d text b l₁ p₁ codes₁ out₁ wait₁ m p₄ codes₄ out₄ wait₄
     up-more h {m} e =
         let t = h .still m e in
@@ -249,14 +263,16 @@ module _ {s : Sign} {d : ℕ} {text : List ℕ} {b l₁ : ℕ} {p₁ codes₁ ou
 
 -- the second loop: every chain of which the rest was read has been carried on
 pub record Down (s : Sign) (d : ℕ) (text : List ℕ) (b l₁ : ℕ) (p₁ codes out₁ wait : List ℕ) (l : ℕ) (p out : List ℕ) : Type 0 where
-  pub down : (p₀ codes₀ out₀ : List ℕ) → Falling s d text p₀ codes₀ out₀ b l₁ p₁ codes out₁ wait → Falling s d text p₀ codes₀ out₀ b l p codes out wait
+  pub down : (p₀ codes₀ out₀ : List ℕ) → Falling s d text p₀ codes₀ out₀ b l₁ p₁ codes out₁ wait → Falling s d text p₀ codes₀
+      out₀ b l p codes out wait
   pub least : b ≤ waiting p
   pub most : waiting p ≤ connectiveCeiling
   pub rooms : Rooms p out wait
 
 -- it starts where the first ends
 pub down-first : {s : Sign} {d : ℕ} {text : List ℕ} {b l₁ : ℕ} {p₁ codes₁ out₁ wait₁ : List ℕ} {l : ℕ} {p codes out wait : List ℕ} →
-    Up s d text b l₁ p₁ codes₁ out₁ wait₁ l p codes out wait → {p₀ codes₀ out₀ : List ℕ} → Rising s d text p₀ codes₀ out₀ b l p codes out wait →
+    Up s d text b l₁ p₁ codes₁ out₁ wait₁ l p codes out wait → {p₀ codes₀ out₀ : List ℕ} → Rising s d text p₀ codes₀ out₀ b l p
+    codes out wait →
     Down s d text b l p codes out wait l p out
 down-first u r = record {
   down = λ p₀ codes₀ out₀ h. h;

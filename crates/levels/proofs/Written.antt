@@ -24,7 +24,8 @@ literal-small or c h = omega arith
 literal-small and c h = omega arith
 
 -- joining two guards writes their triplets and its own
-pub writes-joined : (s : Sign) (c c₁ c₂ : ℕ) (o o₁ o₂ : List ℕ) (g h : Guard) (l r : ℕ) → Writes c c₁ o o₁ g l → Writes c₁ c₂ o₁ o₂ h r →
+pub writes-joined : (s : Sign) (c c₁ c₂ : ℕ) (o o₁ o₂ : List ℕ) (g h : Guard) (l r : ℕ) → Writes c c₁ o o₁ g l → Writes c₁ c₂ o₁
+    o₂ h r →
     c₂ < connectiveCeiling → length o₂ ≡ 3 * connectiveCeiling →
     Writes c (c₂ + 1) o (tripletAt o₂ c₂ (tripletOf s l r)) (joined s g h) (literalOf s (tripletVariable (c₂ + 1)))
 unfolding triplets literal

@@ -23,11 +23,13 @@ use Rattle.lines.specs.declared.question.Question.the-variants.{Asks}
 use Rattle.lines.proofs.Putting.{puts-then, puts-inside}
 
 -- ---- the verdict
-pub covered-put : (text : List ℕ) {a : List ℕ} {p : ℕ} {b : List ℕ} {r : ℕ} → Puts a p (bytes "covered") b r → PutsIn verdictRoom a p (answered text Covered) b r
+pub covered-put : (text : List ℕ) {a : List ℕ} {p : ℕ} {b : List ℕ} {r : ℕ} → Puts a p (bytes "covered") b r → PutsIn verdictRoom a p
+    (answered text Covered) b r
 unfolding answered bytes
 covered-put text f = record { puts = f; within = omega (arith, f .next) }
 
-pub undecided-put : (text : List ℕ) {a : List ℕ} {p : ℕ} {b : List ℕ} {r : ℕ} → Puts a p (bytes "undecided") b r → PutsIn verdictRoom a p (answered text Undecided) b r
+pub undecided-put : (text : List ℕ) {a : List ℕ} {p : ℕ} {b : List ℕ} {r : ℕ} → Puts a p (bytes "undecided") b r → PutsIn verdictRoom a p
+    (answered text Undecided) b r
 unfolding answered bytes
 undecided-put text f = record { puts = f; within = omega (arith, f .next) }
 
@@ -36,8 +38,10 @@ pub gap-put : (text : List ℕ) (state : ℕ) {a : List ℕ} {p : ℕ} {b : List
 unfolding answered bytes
 gap-put text state f g = record { puts = puts-then f (g .puts); within = omega (arith, f .next, g .within) }
 
-pub refusal-put : (text : List ℕ) (x : Refusal) {a : List ℕ} {p : ℕ} {b : List ℕ} {q : ℕ} {c : List ℕ} {s : ℕ} {d : List ℕ} {t : ℕ} {e : List ℕ} {r : ℕ}
-    → Puts a p (bytes "refused ") b q → PutsIn numberRoom b q (decimal (x .number)) c s → Puts c s (bytes " ") d t → PutsIn numberRoom d t (decimal (x .place)) e r
+pub refusal-put : (text : List ℕ) (x : Refusal) {a : List ℕ} {p : ℕ} {b : List ℕ} {q : ℕ} {c : List ℕ} {s : ℕ} {d : List ℕ} {t : ℕ}
+    {e : List ℕ} {r : ℕ}
+    → Puts a p (bytes "refused ") b q → PutsIn numberRoom b q (decimal (x .number)) c s → Puts c s (bytes " ") d t → PutsIn numberRoom d t
+    (decimal (x .place)) e r
     → PutsIn verdictRoom a p (answered text (Refused x)) e r
 unfolding answered bytes
 refusal-put text x f g h i =
@@ -47,17 +51,21 @@ refusal-put text x f g h i =
     }
 
 -- what is put for a verdict is put for one equal to it
-pub verdict-as : (text : List ℕ) {v w : Verdict} → v ≡ w → {a : List ℕ} {p : ℕ} {b : List ℕ} {r : ℕ} → PutsIn verdictRoom a p (answered text w) b r → PutsIn verdictRoom a p (answered text v) b r
+pub verdict-as : (text : List ℕ) {v w : Verdict} → v ≡ w → {a : List ℕ} {p : ℕ} {b : List ℕ} {r : ℕ} → PutsIn verdictRoom a p
+    (answered text w) b r → PutsIn verdictRoom a p (answered text v) b r
 verdict-as text e {a} {p} {b} {r} f = subst (λ (x : Verdict). PutsIn verdictRoom a p (answered text x) b r) (sym e) f
 
 -- ---- the whole line
-pub line-put : (number : ℕ) (text : List ℕ) (v : Verdict) {a : List ℕ} {p : ℕ} {b : List ℕ} {q : ℕ} {c : List ℕ} {s : ℕ} {d : List ℕ} {t : ℕ} {e : List ℕ} {r : ℕ}
-    → PutsIn numberRoom a p (decimal number) b q → Puts b q (bytes " ") c s → PutsIn verdictRoom c s (answered text v) d t → Puts d t (lineFeed ∷ []) e r → Puts a p (printed number text v) e r
+pub line-put : (number : ℕ) (text : List ℕ) (v : Verdict) {a : List ℕ} {p : ℕ} {b : List ℕ} {q : ℕ} {c : List ℕ} {s : ℕ} {d : List ℕ}
+    {t : ℕ} {e : List ℕ} {r : ℕ}
+    → PutsIn numberRoom a p (decimal number) b q → Puts b q (bytes " ") c s → PutsIn verdictRoom c s (answered text v) d t → Puts d t
+    (lineFeed ∷ []) e r → Puts a p (printed number text v) e r
 unfolding printed
 line-put number text v f g h i = puts-then (f .puts) (puts-then g (puts-then (h .puts) i))
 
 -- what is put for a question is the answer to the line that asks it
-pub answers : (number : ℕ) (line : List ℕ) (q : Question) (v : Verdict) (before after : List ℕ) (r : ℕ) → q ≡ question line → QuestionSays line q v
+pub answers : (number : ℕ) (line : List ℕ) (q : Question) (v : Verdict) (before after : List ℕ) (r : ℕ) → q ≡ question line → QuestionSays line
+    q v
     → Puts before 0 (printed number (guardIn line q) v) after r → Answers number line before after r
 answers number line q v before after r e s p =
     record {
@@ -73,8 +81,10 @@ answers number line q v before after r e s p =
     }
 
 -- the guard is what is left of the line
-pub answers-guard : (number : ℕ) (line : List ℕ) (depth start : ℕ) (v : Verdict) (before after : List ℕ) (r : ℕ) → Asks depth start ≡ question line
-    → CheckSays (part start (length line) line) depth v → Puts before 0 (printed number (part start (length line) line) v) after r → Answers number line before after r
+pub answers-guard : (number : ℕ) (line : List ℕ) (depth start : ℕ) (v : Verdict) (before after : List ℕ) (r : ℕ) → Asks depth start ≡ question
+    line
+    → CheckSays (part start (length line) line) depth v → Puts before 0 (printed number (part start (length line) line) v) after r → Answers number line
+    before after r
 answers-guard number line depth start v before after r e s p =
     let rest : part start (length line) line ≡ drop start line = take-all (length line - start) (drop start line) (rw length-drop (omega arith)) in
     answers number line (Asks depth start) v before after r e

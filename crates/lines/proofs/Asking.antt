@@ -46,11 +46,13 @@ module _ (line : List ℕ) (a b : ℕ) (ea : a ≡ byteAt line 0) (eb : b ≡ by
   unfolding question
   no-second h n g = rw (← ea, ← eb, h, ne-eqb b 32 n, g)
 
-  pub no-space : isDigit a ≡ true → (b ≡ 32 → ⊥) → isDigit b ≡ true → (c : ℕ) → c ≡ byteAt line 2 → (c ≡ 32 → ⊥) → Malformed ≡ question line
+  pub no-space : isDigit a ≡ true → (b ≡ 32 → ⊥) → isDigit b ≡ true → (c : ℕ) → c ≡ byteAt line 2 → (c ≡ 32 → ⊥) → Malformed
+      ≡ question line
   unfolding question
   no-space h n g c ec m = rw (← ea, ← eb, ← ec, h, ne-eqb b 32 n, g, ne-eqb c 32 m)
 
-  pub two-digits : isDigit a ≡ true → (b ≡ 32 → ⊥) → isDigit b ≡ true → (c : ℕ) → c ≡ byteAt line 2 → c ≡ 32 → Asks (10 * digitValue a + digitValue b) 3 ≡ question line
+  pub two-digits : isDigit a ≡ true → (b ≡ 32 → ⊥) → isDigit b ≡ true → (c : ℕ) → c ≡ byteAt line 2 → c ≡ 32 → Asks
+      (10 * digitValue a + digitValue b) 3 ≡ question line
   unfolding question
   two-digits h n g c ec e = rw (← ea, ← eb, ← ec, h, ne-eqb b 32 n, g, eq-eqb c 32 e)
 
@@ -94,7 +96,8 @@ question-within line =
     rest = choose (isDigit b) two Malformed
 
     two-inside : Inside (length line) two
-    two-inside = chosen-inside (length line) (eqb c 32) (Asks (10 * digitValue a + digitValue b) 3) Malformed (λ e. space-inside line 2 (eqb-true c 32 e)) (λ e. tt)
+    two-inside = chosen-inside (length line) (eqb c 32) (Asks (10 * digitValue a + digitValue b) 3) Malformed (λ e. space-inside line 2 (eqb-true c 32 e))
+        (λ e. tt)
 
     rest-inside : Inside (length line) rest
     rest-inside = chosen-inside (length line) (isDigit b) two Malformed (λ e. two-inside) (λ e. tt)

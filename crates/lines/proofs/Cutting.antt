@@ -38,7 +38,8 @@ module _ (input : List ℕ) where
   unfolding lines
   lines-feed i h e = rw (add-one, drop-cons input i 0 h, eq-eqb (getD input i 0) lineFeed e)
 
-  lines-other : (i : ℕ) → i < length input → (getD input i 0 ≡ lineFeed → ⊥) → lines (drop i input) ≡ onto (getD input i 0) (lines (drop (i + 1) input))
+  lines-other : (i : ℕ) → i < length input → (getD input i 0 ≡ lineFeed → ⊥) → lines (drop i input) ≡ onto (getD input i 0)
+      (lines (drop (i + 1) input))
   unfolding lines
   lines-other i h n = rw (add-one, drop-cons input i 0 h, ne-eqb (getD input i 0) lineFeed n)
 

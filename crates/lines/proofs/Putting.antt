@@ -11,7 +11,8 @@ use Rattle.ground.proofs.Cases.{lt-or-ge}
 use Rattle.lines.specs.contracts.Put.{Puts}
 
 -- ---- cut at r: up to there the bytes after what stood before them, from there on what stood there
-pub puts-of : {a : List ℕ} {p : ℕ} {x b : List ℕ} {r : ℕ} → r ≡ p + length x → take r b ≡ take p a ++ x → drop r b ≡ drop r a → length b ≡ length a → Puts a p x b r
+pub puts-of : {a : List ℕ} {p : ℕ} {x b : List ℕ} {r : ℕ} → r ≡ p + length x → take r b ≡ take p a ++ x → drop r b ≡ drop r a → length b
+    ≡ length a → Puts a p x b r
 puts-of {a} {p} {x} {b} {r} n w k l =
     record {
       next = n;
@@ -74,12 +75,14 @@ pub puts-more : (out : List ℕ) (at : ℕ) (bytes now : List ℕ) (i : ℕ) →
 puts-more out at bytes now i h l p =
     puts-as (sym (take-suc bytes i 0 h) ∙ rw add-one) (omega arith) (puts-then p (puts-byte now (at + i) (getD bytes i 0) l))
 
-pub puts-whole : (out : List ℕ) (at : ℕ) (bytes now : List ℕ) (i : ℕ) → length bytes ≤ i → Puts out at (take i bytes) now (at + i) → Puts out at bytes now (at + i)
+pub puts-whole : (out : List ℕ) (at : ℕ) (bytes now : List ℕ) (i : ℕ) → length bytes ≤ i → Puts out at (take i bytes) now (at + i) → Puts out
+    at bytes now (at + i)
 puts-whole out at bytes now i h p = puts-as (take-all i bytes h) refl p
 
 -- ---- what is put lies within the slice
 pub puts-inside : {a : List ℕ} {p : ℕ} {x b : List ℕ} {r : ℕ} → p ≤ length a → Puts a p x b r → r ≤ length b
 puts-inside {a} {p} {x} {b} {r} h f =
     let first : length (take p a) ≡ p = length-take-le p a h in
-    let whole : length b ≡ p + (length x + length (drop r a)) = ap (λ (l : List ℕ). length l) (f .holds) ∙ length-append (take p a) (x ++ drop r a) ∙ rw (first, length-append) in
+    let whole : length b ≡ p + (length x + length (drop r a)) = ap (λ (l : List ℕ). length l) (f .holds) ∙ length-append (take p a) (x ++ drop r a)
+    ∙ rw (first, length-append) in
     omega (arith, whole, f .next)

@@ -31,7 +31,8 @@ judged-fits (accepted u m) g f = f
 reading-fits : (text : List ℕ) → FlagsFit (flagsOf (reading text))
 unfolding reading
 reading-fits text =
-    choose-has (λ (x : Reading). FlagsFit (flagsOf x)) (leb (length text) textCeiling) (judged (walk operand 0 [] 0 (tokens text)) (tree (tokens text))) (refusal 1 textCeiling)
+    choose-has (λ (x : Reading). FlagsFit (flagsOf x)) (leb (length text) textCeiling) (judged (walk operand 0 [] 0 (tokens text)) (tree (tokens text)))
+    (refusal 1 textCeiling)
     (λ h. judged-fits (walk operand 0 [] 0 (tokens text)) (tree (tokens text)) (text-fits text (leb-true (length text) textCeiling h)))
     (λ h. tt)
 

@@ -25,7 +25,8 @@ pub answer-line-unique : (number : ℕ) (line bytes other : List ℕ) → Answer
 answer-line-unique number line bytes other a b =
     a .text ∙ ap (printed number (guardOf line)) (question-unique line (question line) (a .verdict) (b .verdict) (a .says) (b .says)) ∙ sym (b .text)
 
-pub answers-unique : (number : ℕ) (line before after other : List ℕ) (r s : ℕ) → Answers number line before after r → Answers number line before other s → (r ≡ s) × (after ≡ other)
+pub answers-unique : (number : ℕ) (line before after other : List ℕ) (r s : ℕ) → Answers number line before after r → Answers number line before
+    other s → (r ≡ s) × (after ≡ other)
 answers-unique number line before after other r s a b =
     let output : a .output ≡ b .output = answer-line-unique number line (a .output) (b .output) (a .answer) (b .answer) in
     let count : r ≡ s = a .count ∙ ap (λ (u : List ℕ). length u) output ∙ sym (b .count) in
@@ -35,7 +36,8 @@ answer-lines-unique : (number : ℕ) (ls : List (List ℕ)) (a b : List ℕ) →
 answer-lines-unique number [] a b p q = p ∙ sym q
 answer-lines-unique number (l ∷ ls) a b p q =
     p .4
-    ∙ ap₂ (λ (x y : List ℕ). x ++ y) (answer-line-unique number l (p .0) (q .0) (p .2) (q .2)) (answer-lines-unique (suc number) ls (p .1) (q .1) (p .3) (q .3))
+    ∙ ap₂ (λ (x y : List ℕ). x ++ y) (answer-line-unique number l (p .0) (q .0) (p .2) (q .2))
+    (answer-lines-unique (suc number) ls (p .1) (q .1) (p .3) (q .3))
     ∙ sym (q .4)
 
 -- an input has one output

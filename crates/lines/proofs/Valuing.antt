@@ -18,7 +18,8 @@ use Rattle.lines.proofs.Putting.{puts-of, puts-cut, kept-later, puts-th
 
 -- one flag: a space, the code, `=`, the digit
 pub flag-put : {a b c d e code : List ℕ} {p q s t r : ℕ} (v : Bool)
-    → Puts a p (32 ∷ []) b q → Puts b q code c s → Puts c s (61 ∷ []) d t → Puts d t (bytes (choose v "1" "0")) e r → Puts a p (flagValue code v) e r
+    → Puts a p (32 ∷ []) b q → Puts b q code c s → Puts c s (61 ∷ []) d t → Puts d t (bytes (choose v "1" "0")) e r → Puts a p
+    (flagValue code v) e r
 unfolding flagValue bytes
 flag-put v f g h i = puts-then f (puts-then g (puts-then h i))
 
@@ -39,13 +40,15 @@ table-first text codes k i t h =
 
 -- from flag i on: that flag, and those after it
 flags-from : (text codes : List ℕ) (k i : ℕ) → i < k
-    → (v : List Flag) × (drop i (flagsIn text codes k) ≡ flagAt text (startOf codes i) (endOf codes i) ∷ v) × (drop (i + 1) (flagsIn text codes k) ≡ v) × (length v ≡ k - 1 - i)
+    → (v : List Flag) × (drop i (flagsIn text codes k) ≡ flagAt text (startOf codes i) (endOf codes i) ∷ v)
+    × (drop (i + 1) (flagsIn text codes k) ≡ v) × (length v ≡ k - 1 - i)
 flags-from text codes k i h =
     let r = flags-split text codes i k h in
     let f : Flag = flagAt text (startOf codes i) (endOf codes i) in
     let whole : flagsIn text codes k ≡ flagsIn text codes i ++ (f ∷ r .0) = r .1 in
     let first : length (flagsIn text codes i) ≡ i = flags-length text codes i in
-    let count : k ≡ i + suc (length (r .0)) = sym (flags-length text codes k) ∙ ap (λ (u : List Flag). length u) whole ∙ length-append (flagsIn text codes i) (f ∷ r .0) ∙ rw first in
+    let count : k ≡ i + suc (length (r .0)) = sym (flags-length text codes k) ∙ ap (λ (u : List Flag). length u) whole ∙ length-append
+    (flagsIn text codes i) (f ∷ r .0) ∙ rw first in
     let last : drop i (flagsIn text codes k) ≡ f ∷ r .0 = ap (λ (u : List Flag). drop i u) whole ∙ drop-at (flagsIn text codes i) (f ∷ r .0) i first in
     let next : drop (i + 1) (flagsIn text codes k) ≡ r .0 = sym (drop-drop 1 i (flagsIn text codes k)) ∙ ap (λ (u : List Flag). drop 1 u) last in
     (r .0, last, next, omega arith)

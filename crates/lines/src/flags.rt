@@ -60,7 +60,8 @@ fn put_values(
 ) -> usize
     requires { ⌜ CodeTable (now text) (now codes) flags ⌝ }
     requires { ⌜ at + valueRoom * flags ≤ length (now out) ⌝ }
-    ensures { λ r. ⌜ PutsIn (valueRoom * flags) (now (out .entry)) at (valued (flagsIn (now (text .entry)) (now (codes .entry)) flags) state) (now (out .exit)) r ⌝ }
+    ensures { λ r. ⌜ PutsIn (valueRoom * flags) (now (out .entry)) at (valued (flagsIn (now (text .entry)) (now (codes .entry)) flags) state)
+        (now (out .exit)) r ⌝ }
 {
     let mut next = at;
     let mut i = 0;

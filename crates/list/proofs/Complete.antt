@@ -21,7 +21,8 @@ use Rattle.gaps.proofs.Ascending.{false-not, false-one}
 use Rattle.ground.proofs.Cases.{either}
 
 -- no second answer, nor a second slice afterwards, satisfies list's statement
-pub lists-unique : (text : List ℕ) (start : ℕ) (out : List ℕ) (a b : Listing) (o p : List ℕ) → Lists text start out a o → Lists text start out b p → (a ≡ b) × (o ≡ p)
+pub lists-unique : (text : List ℕ) (start : ℕ) (out : List ℕ) (a b : Listing) (o p : List ℕ) → Lists text start out a o → Lists text start out b p
+    → (a ≡ b) × (o ≡ p)
 lists-unique text start out a b o p l m = (l .answers ∙ sym (m .answers), l .holds ∙ sym (m .holds))
 
 module _ (v : ℕ → Bool) where
@@ -69,7 +70,8 @@ module _ (v : ℕ → Bool) where
       (either (v lo))
 
 -- a state is listed exactly when it is a gap from the start on
-pub gaps-exact : (n : ℕ) (g : Guard) (start s : ℕ) → start ≤ 2 ^ n → Among s (gapsFrom n g start) ↔ ((start ≤ s) × (s < 2 ^ n) × (value n s g ≡ false))
+pub gaps-exact : (n : ℕ) (g : Guard) (start s : ℕ) → start ≤ 2 ^ n → Among s (gapsFrom n g start)
+    ↔ ((start ≤ s) × (s < 2 ^ n) × (value n s g ≡ false))
 unfolding gapsFrom
 gaps-exact n g start s h = (
   (λ m. let p = among-false (λ u. value n u g) start (2 ^ n - start) s m in (p .0, omega (arith, p .1), p .2)),
@@ -103,4 +105,5 @@ unfolding placed
 placed-kept l out i h b =
     let e : i ≡ length l + (i - length l) = omega arith in
     rw (take-all (length out) l (omega arith))
-    (ap (λ u. getD (l ++ drop (length l) out) u 0) e ∙ getD-append-add l (drop (length l) out) (i - length l) 0 ∙ getD-drop (length l) out (i - length l) 0 ∙ ap (λ u. getD out u 0) (sym e))
+    (ap (λ u. getD (l ++ drop (length l) out) u 0) e ∙ getD-append-add l (drop (length l) out) (i - length l) 0 ∙ getD-drop (length l) out (i - length l)
+    0 ∙ ap (λ u. getD out u 0) (sym e))

@@ -24,7 +24,8 @@ use Rattle.ground.proofs.Cases.{lt-or-ge}
 use Rattle.notation.proofs.Cutting.{cut-mark, later-token, later-fault}
 
 -- what holds of eight numbers holds of a list of length 8
-pub eight : (P : List ℕ → Type 0) → ((a b c d e f g h : ℕ) → P (a ∷ b ∷ c ∷ d ∷ e ∷ f ∷ g ∷ h ∷ [])) → (p : List ℕ) → length p ≡ placeRoom → P p
+pub eight : (P : List ℕ → Type 0) → ((a b c d e f g h : ℕ) → P (a ∷ b ∷ c ∷ d ∷ e ∷ f ∷ g ∷ h ∷ [])) → (p : List ℕ) → length p
+    ≡ placeRoom → P p
 eight P q [] l = absurd (omega arith)
 eight P q (a ∷ []) l = absurd (omega arith)
 eight P q (a ∷ b ∷ []) l = absurd (omega arith)
@@ -36,14 +37,16 @@ eight P q (a ∷ b ∷ c ∷ d ∷ e ∷ f ∷ g ∷ []) l = absurd (omega arith
 eight P q (a ∷ b ∷ c ∷ d ∷ e ∷ f ∷ g ∷ h ∷ []) l = q a b c d e f g h
 eight P q (a ∷ b ∷ c ∷ d ∷ e ∷ f ∷ g ∷ h ∷ x ∷ xs) l = absurd (omega arith)
 
-as-it-was : {p p′ : List ℕ} → getD p′ 3 0 ≡ getD p 3 0 → getD p′ 4 0 ≡ getD p 4 0 → getD p′ 5 0 ≡ getD p 5 0 → getD p′ 7 0 ≡ getD p 7 0 →
+as-it-was : {p p′ : List ℕ} → getD p′ 3 0 ≡ getD p 3 0 → getD p′ 4 0 ≡ getD p 4 0 → getD p′ 5 0 ≡ getD p 5 0 → getD p′ 7 0 ≡ getD
+    p 7 0 →
     length p′ ≡ placeRoom → SameBehind p p′
 as-it-was a b c d e = record { flags = a; signs = b; count = c; waits = d; room = e }
 
 -- a token stored
 pub stored : (k s e : ℕ) (p : List ℕ) → length p ≡ placeRoom → Stored k s e p (set (set (set p 0 k) 1 s) 2 e)
 stored k s e p l =
-    eight (λ q. Stored k s e q (set (set (set q 0 k) 1 s) 2 e)) (λ a b c d e₁ f g h. record { token = refl; behind = as-it-was refl refl refl refl refl }) p l
+    eight (λ q. Stored k s e q (set (set (set q 0 k) 1 s) 2 e)) (λ a b c d e₁ f g h. record { token = refl; behind = as-it-was refl refl refl refl refl })
+    p l
 
 -- a refusal stored
 pub refused-at : (n s : ℕ) (p : List ℕ) → length p ≡ placeRoom → RefusedAt n s p step.Refused (set (set p 6 n) 1 s)
@@ -66,7 +69,8 @@ behind-twice a b = record {
 }
 
 -- the token that was stored is the next
-pub taken-stored : {text p p′ : List ℕ} {from k s e : ℕ} → Stored k s e p p′ → NextToken text from (record { kind = kindOf k; start = s; next = e }) →
+pub taken-stored : {text p p′ : List ℕ} {from k s e : ℕ} → Stored k s e p p′ → NextToken text from
+    (record { kind = kindOf k; start = s; next = e }) →
     CutSays text from p step.Taken p′
 taken-stored {text} {p} {p′} {from} t n = record {
   taken = λ _. subst (λ (x : Token). NextToken text from x) (sym (t .token)) n;
@@ -94,7 +98,8 @@ cut-later {text} {p} {p′} {from} {s} h c = record {
 
 -- no class is above 10
 class-bound : (s c h t₄ t₅ t₆ t₇ t₈ t₉ t₁₀ : Bool) →
-    choose s 1 (choose c 2 (choose h 3 (choose t₄ 4 (choose t₅ 5 (choose t₆ 6 (choose t₇ 7 (choose t₈ 8 (choose t₉ 9 (choose t₁₀ 10 0))))))))) ≤ 10
+    choose s 1 (choose c 2 (choose h 3 (choose t₄ 4 (choose t₅ 5 (choose t₆ 6 (choose t₇ 7 (choose t₈ 8 (choose t₉ 9 (choose t₁₀ 10 0)))))))))
+    ≤ 10
 class-bound true c h t₄ t₅ t₆ t₇ t₈ t₉ t₁₀ = omega arith
 class-bound false true h t₄ t₅ t₆ t₇ t₈ t₉ t₁₀ = omega arith
 class-bound false false true t₄ t₅ t₆ t₇ t₈ t₉ t₁₀ = omega arith
@@ -187,7 +192,8 @@ kind-past (suc (suc (suc (suc (suc (suc (suc (suc (suc (suc (suc (suc zero))))))
 kind-past (suc (suc (suc (suc (suc (suc (suc (suc (suc (suc (suc (suc (suc k))))))))))))) h = refl
 
 -- a number that is none of the others' stands for the end
-pub no-kind : (k : ℕ) → (k ≡ 2 → ⊥) → (k ≡ 4 → ⊥) → (k ≡ 5 → ⊥) → (k ≡ 6 → ⊥) → (k ≡ 7 → ⊥) → (k ≡ 8 → ⊥) → (k ≡ 9 → ⊥) → (k ≡ 10 → ⊥) →
+pub no-kind : (k : ℕ) → (k ≡ 2 → ⊥) → (k ≡ 4 → ⊥) → (k ≡ 5 → ⊥) → (k ≡ 6 → ⊥) → (k ≡ 7 → ⊥) → (k ≡ 8 → ⊥)
+    → (k ≡ 9 → ⊥) → (k ≡ 10 → ⊥) →
     (k ≡ 11 → ⊥) → (k ≡ 12 → ⊥) → kindOf k ≡ kind.End
 unfolding kindOf
 no-kind zero n₂ n₄ n₅ n₆ n₇ n₈ n₉ n₁₀ n₁₁ n₁₂ = refl
@@ -201,8 +207,10 @@ no-kind (suc (suc (suc (suc (suc (suc (suc zero))))))) n₂ n₄ n₅ n₆ n₇ 
 no-kind (suc (suc (suc (suc (suc (suc (suc (suc zero)))))))) n₂ n₄ n₅ n₆ n₇ n₈ n₉ n₁₀ n₁₁ n₁₂ = absurd (n₈ refl)
 no-kind (suc (suc (suc (suc (suc (suc (suc (suc (suc zero))))))))) n₂ n₄ n₅ n₆ n₇ n₈ n₉ n₁₀ n₁₁ n₁₂ = absurd (n₉ refl)
 no-kind (suc (suc (suc (suc (suc (suc (suc (suc (suc (suc zero)))))))))) n₂ n₄ n₅ n₆ n₇ n₈ n₉ n₁₀ n₁₁ n₁₂ = absurd (n₁₀ refl)
-no-kind (suc (suc (suc (suc (suc (suc (suc (suc (suc (suc (suc zero))))))))))) n₂ n₄ n₅ n₆ n₇ n₈ n₉ n₁₀ n₁₁ n₁₂ = absurd (n₁₁ refl)
-no-kind (suc (suc (suc (suc (suc (suc (suc (suc (suc (suc (suc (suc zero)))))))))))) n₂ n₄ n₅ n₆ n₇ n₈ n₉ n₁₀ n₁₁ n₁₂ = absurd (n₁₂ refl)
+no-kind (suc (suc (suc (suc (suc (suc (suc (suc (suc (suc (suc zero))))))))))) n₂ n₄ n₅ n₆ n₇ n₈ n₉ n₁₀ n₁₁ n₁₂ = absurd
+    (n₁₁ refl)
+no-kind (suc (suc (suc (suc (suc (suc (suc (suc (suc (suc (suc (suc zero)))))))))))) n₂ n₄ n₅ n₆ n₇ n₈ n₉ n₁₀ n₁₁ n₁₂ = absurd
+    (n₁₂ refl)
 no-kind (suc (suc (suc (suc (suc (suc (suc (suc (suc (suc (suc (suc (suc k))))))))))))) n₂ n₄ n₅ n₆ n₇ n₈ n₉ n₁₀ n₁₁ n₁₂ = refl
 
 -- such a test is a comparison of the number

@@ -128,7 +128,8 @@ atom-says {text} {p} {codes} {codes′} {n} {g} {l} o {p₁} {p′} {r} f a = re
 }
 
 -- the token after the one of a literal
-pub past-token-found : {text p p′ : List ℕ} {l : ℕ} {r : Step} → AdvancedSays text p r p′ → r ≡ step.Taken → PastTokenSays text p l (answer.Found l) p′
+pub past-token-found : {text p p′ : List ℕ} {l : ℕ} {r : Step} → AdvancedSays text p r p′ → r ≡ step.Taken → PastTokenSays text p l
+    (answer.Found l) p′
 past-token-found {text} {p} {p′} {l} {r} a e = record {
   found = λ m h. (a .taken e, same-found m h);
   refused = λ h. never-answer l (answer.Found l) refl h;
@@ -138,15 +139,18 @@ past-token-found {text} {p} {p′} {l} {r} a e = record {
     same-found : (m : ℕ) → answer.Found l ≡ answer.Found m → m ≡ l
     same-found m h = cc
 
-pub past-token-refused : {text p p′ : List ℕ} {l : ℕ} {r : Step} → AdvancedSays text p r p′ → r ≡ step.Refused → PastTokenSays text p l answer.Refused p′
+pub past-token-refused : {text p p′ : List ℕ} {l : ℕ} {r : Step} → AdvancedSays text p r p′ → r ≡ step.Refused → PastTokenSays text p l
+    answer.Refused p′
 past-token-refused a e = record { found = λ m h. never-answer m answer.Refused h refl; refused = λ h. a .refused e; kept = a .kept }
 
 -- the token ahead, told by its kind
-ahead-truth : (k : Kind) (text : List ℕ) (p e : ℕ) (b : Bool) → k ≡ kind.Truth b → aheadAs k text p e ≡ token-at p (hash b) (past (aheadAs k text p e))
+ahead-truth : (k : Kind) (text : List ℕ) (p e : ℕ) (b : Bool) → k ≡ kind.Truth b → aheadAs k text p e ≡ token-at p (hash b)
+    (past (aheadAs k text p e))
 unfolding aheadAs past
 ahead-truth k text p e b q = rw q
 
-ahead-code : (k : Kind) (text : List ℕ) (p e : ℕ) → k ≡ kind.Code → aheadAs k text p e ≡ token-at p (code (part p e text)) (past (aheadAs k text p e))
+ahead-code : (k : Kind) (text : List ℕ) (p e : ℕ) → k ≡ kind.Code → aheadAs k text p e ≡ token-at p (code (part p e text))
+    (past (aheadAs k text p e))
 unfolding aheadAs past
 ahead-code k text p e q = rw q
 
@@ -230,10 +234,12 @@ module _ (text : List ℕ) (at : At) (codes : List ℕ) (st : Standing text code
 
     longer : at .flags ≤ r → length (seen (at .token .start) name flags) ≡ at .flags + 1
     unfolding flags
-    longer h = ap length (new-seen h) ∙ length-append flags (flagAt text (at .token .start) (at .token .next) ∷ []) ∙ rw (flags-length text codes (at .flags))
+    longer h = ap length (new-seen h) ∙ length-append flags (flagAt text (at .token .start) (at .token .next) ∷ []) ∙ rw
+        (flags-length text codes (at .flags))
 
     -- a code that is new is an operand too, and is entered into the table
-    pub new-token : at .flags ≤ r → at .flags < flagCeiling → (l : ℕ) → l ≡ 2 * (r + 1) → (n : ℕ) → Keyed text (at .token .start) (at .token .next) n →
+    pub new-token : at .flags ≤ r → at .flags < flagCeiling → (l : ℕ) → l ≡ 2 * (r + 1) → (n : ℕ) → Keyed text (at .token .start)
+        (at .token .next) n →
         OneToken text at codes (entered codes (at .flags) (at .token .start) (at .token .next) n) (at .flags + 1) (flag (r + 1)) l
     unfolding connectives triplets literal within flags
     new-token h i l e n key =
@@ -329,7 +335,8 @@ module _ {text p p′ : List ℕ} {r : Step} where
     kept = a .kept;
   }
 
-  pub closed-refused : joins (kindOf (getD p 0 0)) ≡ false → closes (kindOf (getD p 0 0)) ≡ false → RefusedAt 5 (getD p 1 0) p r p′ → ClosedSays text p r p′
+  pub closed-refused : joins (kindOf (getD p 0 0)) ≡ false → closes (kindOf (getD p 0 0)) ≡ false → RefusedAt 5 (getD p 1 0) p r p′ → ClosedSays
+      text p r p′
   closed-refused j k c = record {
     taken = λ e. never-both r e (c .answer);
     refused = λ e d u m.

@@ -162,7 +162,8 @@ sign-counted p l =
 
 module _ (text p : List ℕ) (fits : TokenFits text (tokenIn p)) (j : joins (kindOf (getD p 0 0)) ≡ true) where
   -- past a sign that is within the ceiling
-  pub past-sign-says : {p₁ p′ : List ℕ} {r : Step} → getD p 4 0 < connectiveCeiling → SignCounted p p₁ → CutSays text (getD p₁ 2 0) p₁ r p′ →
+  pub past-sign-says : {p₁ p′ : List ℕ} {r : Step} → getD p 4 0 < connectiveCeiling → SignCounted p p₁ → CutSays text (getD p₁ 2 0) p₁ r
+      p′ →
       PastSignSays text p r p′
   past-sign-says {p₁} {p′} {r} l s c =
       let on = joins-on (kindOf (getD p 0 0)) j in
@@ -204,7 +205,8 @@ same-self or = refl
 same-self and = refl
 
 -- where no sign stands next, the token ahead is none
-pub stops-joins : (k : Kind) (text : List ℕ) (p e : ℕ) → ((s : Sign) → binding s ≤ 4 → signNext s (aheadAs k text p e) ≡ false) → joins k ≡ false
+pub stops-joins : (k : Kind) (text : List ℕ) (p e : ℕ) → ((s : Sign) → binding s ≤ 4 → signNext s (aheadAs k text p e) ≡ false) → joins k
+    ≡ false
 unfolding aheadAs signNext isSign
 stops-joins kind.End text p e h = refl
 stops-joins kind.Code text p e h = refl

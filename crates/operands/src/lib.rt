@@ -28,7 +28,8 @@ ghost use Rattle.notation.specs.Ceilings.{connectiveCeiling, flagCeiling};
 ghost use Rattle.notation.specs.Tokens.{implies};
 ghost use Rattle.notation.specs.Triplets.{literalCeiling};
 ghost use Rattle.notation.specs.contracts.Place.{placeRoom, kindOf, tokenIn};
-ghost use Rattle.operands.specs.contracts.Steps.{signNumber, kindIs, joins, bangs, closes, place, TokenFits, Standing, AdvancedSays, PastSignSays, PastTokenSays, AtomSays, TruthSays, ClosedSays, RefusedSays, JoinedSays, SetAside};
+ghost use Rattle.operands.specs.contracts.Steps.{signNumber, kindIs, joins, bangs, closes, place, TokenFits, Standing, AdvancedSays, PastSignSays};
+ghost use Rattle.operands.specs.contracts.Steps.{PastTokenSays, AtomSays, TruthSays, ClosedSays, RefusedSays, JoinedSays, SetAside};
 
 // What a level answers: the literal of the operand that it read. A refusal's number and place stand in the lent place.
 pub enum Answer {

@@ -41,14 +41,16 @@ unfolding reading readingFrom tree treeFrom tokens tokensAt
 from-start text = rw (sub-zero)
 
 -- a text over the ceiling
-pub too-long : (text : List ℕ) (from : ℕ) (u : List Flag) → textCeiling < length text - from → readingFrom text from u ≡ refusal 1 (from + textCeiling)
+pub too-long : (text : List ℕ) (from : ℕ) (u : List Flag) → textCeiling < length text - from → readingFrom text from u ≡ refusal 1
+    (from + textCeiling)
 unfolding readingFrom
 too-long text from u h = rw (lt-leb (length text - from) textCeiling h)
 
 pub whole-too-long : (text : List ℕ) → textCeiling < length text → reading text ≡ refusal 1 textCeiling
 whole-too-long text h = sym (from-start text) ∙ too-long text 0 [] (rw sub-zero h)
 
-ends-accepted : (k : Kind) (text : List ℕ) (p e : ℕ) (u : List Flag) (m : ℕ) → ends k ≡ true → walk after 0 u m (aheadAs k text p e) ≡ accepted u m
+ends-accepted : (k : Kind) (text : List ℕ) (p e : ℕ) (u : List Flag) (m : ℕ) → ends k ≡ true → walk after 0 u m (aheadAs k text p e) ≡ accepted
+    u m
 unfolding walk aheadAs
 ends-accepted kind.End text p e u m h = refl
 ends-accepted kind.Code text p e u m h = absurd (true≢false (sym h))
@@ -90,7 +92,8 @@ none-seen text codes = record {
   keys = λ i h. absurd (omega arith);
 }
 
-pub parsed-whole : (text : List ℕ) (r : Parsed) (codes codes′ out′ : List ℕ) → ParseSays text (readingFrom text 0 (flagsIn text codes 0)) r codes′ out′ →
+pub parsed-whole : (text : List ℕ) (r : Parsed) (codes codes′ out′ : List ℕ) → ParseSays text (readingFrom text 0 (flagsIn text codes 0)) r codes′
+    out′ →
     ParseSays text (reading text) r codes′ out′
 unfolding flagsIn
 parsed-whole text r codes codes′ out′ h = subst (λ (x : Reading). ParseSays text x r codes′ out′) (from-start text) h
@@ -107,7 +110,8 @@ module _ (text : List ℕ) (from : ℕ) (u₀ : List Flag) (h : length text - fr
   unfolding readingFrom judged
   walk-accepts u m e = rw (le-leb (length text - from) textCeiling h, e)
 
-  says-refusal : (k p : ℕ) → walk operand 0 u₀ 0 (tokensAt text from) ≡ refused k p → (r : Parsed) → r ≡ refusedWith k p → (codes out : List ℕ) →
+  says-refusal : (k p : ℕ) → walk operand 0 u₀ 0 (tokensAt text from) ≡ refused k p → (r : Parsed) → r ≡ refusedWith k p
+      → (codes out : List ℕ) →
       ParseSays text (readingFrom text from u₀) r codes out
   says-refusal k p e r f codes out = subst (λ (x : Reading). ParseSays text x r codes out) (sym (walk-refuses k p e)) f
 

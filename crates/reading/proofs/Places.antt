@@ -8,7 +8,8 @@ use lib.ListN.{length}
 use lib.Dec.{leb, eqb}
 use borrow.Author.Tests.{leb-true}
 use Rattle.notation.specs.Ceilings.{textCeiling, codeCeiling, flagCeiling, bracketCeiling, connectiveCeiling}
-use Rattle.notation.specs.Tokens.{Code, Token, Tokens, stray, long, code, hash, bang, sign, opening, closing, end, at, same, implies, or, and, codeByte, codeRun, coded, hashed, marked, tokenOf, further, tokensFrom, tokens}
+use Rattle.notation.specs.Tokens.{Code, Token, Tokens, stray, long, code, hash, bang, sign, opening, closing, end, at, same, implies, or, and, codeByte}
+use Rattle.notation.specs.Tokens.{codeRun, coded, hashed, marked, tokenOf, further, tokensFrom, tokens}
 use Rattle.ground.specs.Choice.{choose}
 use Rattle.notation.specs.Walk.{Flag, known, seen, Wanted, operand, after, Outcome, refused, accepted, within, walk}
 use Rattle.reading.specs.contracts.Parsing.{lastRefusal}
@@ -103,7 +104,8 @@ abbrev pub OutcomeFits : Outcome → Type 0
 OutcomeFits (refused k p) = (k ≤ lastRefusal) × (p ≤ textCeiling)
 OutcomeFits (accepted u m) = FlagsFit u
 
-within-fits : (k ceiling number p : ℕ) (rest : Outcome) → number ≤ lastRefusal → p ≤ textCeiling → OutcomeFits rest → OutcomeFits (within k ceiling number p rest)
+within-fits : (k ceiling number p : ℕ) (rest : Outcome) → number ≤ lastRefusal → p ≤ textCeiling → OutcomeFits rest → OutcomeFits
+    (within k ceiling number p rest)
 unfolding within
 within-fits k ceiling number p rest n h f = choose-has (λ (o : Outcome). OutcomeFits o) (leb k ceiling) rest (refused number p) (λ e. f) (λ e. (n, h))
 

@@ -36,7 +36,8 @@ pub record Found (text : List ℕ) (R : Reading) (x : counted.Guard) (codes out 
   pub counts : x ≡ record { flags = length flags; count = connectives tree; root = literal 0 tree }
 
 -- where parse answers a guard, the text says one, and the tables hold it
-pub guard-found : (text : List ℕ) (R : Reading) (r : Parsed) (codes out : List ℕ) → ParseSays text R r codes out → (x : counted.Guard) → r ≡ parsed.Guard x → Found text R x codes out
+pub guard-found : (text : List ℕ) (R : Reading) (r : Parsed) (codes out : List ℕ) → ParseSays text R r codes out → (x : counted.Guard) → r
+    ≡ parsed.Guard x → Found text R x codes out
 guard-found text (refusal k p) r codes out s x e = let z : _≡_ {A = ℕ} 0 1 = cc in absurd (omega arith)
 guard-found text (guard g u) r codes out s x e =
     record {
@@ -48,7 +49,8 @@ guard-found text (guard g u) r codes out s x e =
     }
 
 -- where parse refuses, so does the text
-pub refusal-found : (text : List ℕ) (R : Reading) (r : Parsed) (codes out : List ℕ) → ParseSays text R r codes out → (f : Refusal) → r ≡ parsed.Refused f → R ≡ refusal (f .number) (f .place)
+pub refusal-found : (text : List ℕ) (R : Reading) (r : Parsed) (codes out : List ℕ) → ParseSays text R r codes out → (f : Refusal) → r
+    ≡ parsed.Refused f → R ≡ refusal (f .number) (f .place)
 refusal-found text (refusal k p) r codes out s f e =
     let a : r ≡ refusedWith k p = s in
     let b : f ≡ record { number = k; place = p } = cc in
@@ -68,7 +70,8 @@ copy-more from to i f t =
     ∙ ap (λ (l : List ℕ). l ++ drop (suc i) to) (sym (take-suc from i 0 f))
     ∙ rw add-one
 
-pub read-refused : (text room : List ℕ) (r : Parsed) (f : Refusal) → r ≡ parsed.Refused f → reading text ≡ refusal (f .number) (f .place) → ReadSays text room r room
+pub read-refused : (text room : List ℕ) (r : Parsed) (f : Refusal) → r ≡ parsed.Refused f → reading text ≡ refusal (f .number) (f .place)
+    → ReadSays text room r room
 unfolding readAnswer roomAfter
 read-refused text room r f e h = record { answer = rw (e, h); left = rw h }
 
@@ -86,7 +89,8 @@ module _ (text room : List ℕ) (x : counted.Guard) (codes out : List ℕ) (f : 
       let l : leb (3 * connectives (f .tree)) (length room) ≡ false = lt-leb (3 * connectives (f .tree)) (length room) (rw count-is at h) in
       record { answer = rw (f .says, l); left = rw (f .says, l) }
 
-  pub read-fits : 3 * x .count ≤ length room → (after : List ℕ) → after ≡ take (3 * x .count) out ++ drop (3 * x .count) room → ReadSays text room (parsed.Guard x) after
+  pub read-fits : 3 * x .count ≤ length room → (after : List ℕ) → after ≡ take (3 * x .count) out ++ drop (3 * x .count) room → ReadSays text room
+      (parsed.Guard x) after
   unfolding readAnswer roomAfter
   read-fits h after e =
       let l : leb (3 * connectives (f .tree)) (length room) ≡ true = le-leb (3 * connectives (f .tree)) (length room) (rw count-is at h) in
@@ -145,18 +149,21 @@ name-same text codes k (suc j) t =
         ∙ ap (named.Part (startOf codes j)) l)
     by-test false e = sym (name-over (flagsIn text codes k) (suc j) (rw (flags-length text codes k) (leb-false (suc j) k e)))
 
-pub name-refused : (text : List ℕ) (i : ℕ) (f : Refusal) → reading text ≡ refusal (f .number) (f .place) → named.Refused f ≡ nameAnswer (reading text) i
+pub name-refused : (text : List ℕ) (i : ℕ) (f : Refusal) → reading text ≡ refusal (f .number) (f .place) → named.Refused f ≡ nameAnswer
+    (reading text) i
 unfolding nameAnswer
 name-refused text i f e = rw e
 
-pub name-found : (text : List ℕ) (i : ℕ) (x : counted.Guard) (codes out : List ℕ) → Found text (reading text) x codes out → namedIn codes (x .flags) i ≡ nameAnswer (reading text) i
+pub name-found : (text : List ℕ) (i : ℕ) (x : counted.Guard) (codes out : List ℕ) → Found text (reading text) x codes out → namedIn codes (x .flags)
+    i ≡ nameAnswer (reading text) i
 unfolding nameAnswer
 name-found text i x codes out f =
     let k : x .flags ≡ length (f .flags) = rw (f .counts) in
     rw (k, f .says) (name-same text codes (length (f .flags)) i (f .read .inText) ∙ ap (λ (u : List Flag). nameIn u i) (f .read .flags))
 
 -- a part of the text, by its bytes; none where name refused, or where it lies outside
-pub part-in : (text : List ℕ) (n : Named) (s l : ℕ) → n ≡ named.Part s l → s ≤ length text → l ≤ length text - s → take (s + l - s) (drop s text) ≡ partOf text n
+pub part-in : (text : List ℕ) (n : Named) (s l : ℕ) → n ≡ named.Part s l → s ≤ length text → l ≤ length text - s → take (s + l - s)
+    (drop s text) ≡ partOf text n
 unfolding partOf
 part-in text n s l e a b =
     let m : s + l - s ≡ l = omega arith in

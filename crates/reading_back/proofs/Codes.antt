@@ -93,12 +93,14 @@ module _ (codes : ℕ → Code) (P : ℕ → Type 0) (Q : Flag → Type 0) (apar
   known-is i p nothing = refl
   known-is i p (one {j} {w} {f} {u} q z e m) = rw (seen-is i j f p q e, known-is i p m)
 
-  matches-end : {w : List ℕ} {u : List Flag} (i : ℕ) (f : Flag) → P i → Q f → f .name ≡ codes i → Matches w u → Matches (w ++ (i ∷ [])) (u ++ (f ∷ []))
+  matches-end : {w : List ℕ} {u : List Flag} (i : ℕ) (f : Flag) → P i → Q f → f .name ≡ codes i → Matches w u → Matches (w ++ (i ∷ []))
+      (u ++ (f ∷ []))
   matches-end i f p z e nothing = one p z e nothing
   matches-end i f p z e (one q y d m) = one q y d (matches-end i f p z e m)
 
   -- one more code seen
-  pub matches-seen : {w : List ℕ} {u : List Flag} (i at : ℕ) → P i → Q (record { place = at; name = codes i }) → Matches w u → Matches (met w (flag i)) (seen at (codes i) u)
+  pub matches-seen : {w : List ℕ} {u : List Flag} (i at : ℕ) → P i → Q (record { place = at; name = codes i }) → Matches w u → Matches
+      (met w (flag i)) (seen at (codes i) u)
   unfolding met seen
   matches-seen {w} {u} i at p z m =
       ⊎-elim
@@ -106,7 +108,8 @@ module _ (codes : ℕ → Code) (P : ℕ → Type 0) (Q : Flag → Type 0) (apar
       (λ (e : among i w ≡ false). rw (known-is i p m, e) (matches-end i (record { place = at; name = codes i }) p z refl m))
       (either (among i w))
 
-  number-met : {w : List ℕ} {u : List Flag} (i : ℕ) (more : List ℕ) → P i → Matches w u → among i w ≡ true → number (codes i) u ≡ placeIn (w ++ more) i
+  number-met : {w : List ℕ} {u : List Flag} (i : ℕ) (more : List ℕ) → P i → Matches w u → among i w ≡ true → number (codes i) u ≡ placeIn
+      (w ++ more) i
   unfolding number placeIn among
   number-met i more p nothing h = absurd (false≢true h)
   number-met i more p (one {j} {w} {f} {u} q z e m) h =
@@ -115,7 +118,8 @@ module _ (codes : ℕ → Code) (P : ℕ → Type 0) (Q : Flag → Type 0) (apar
       (λ (t : eqb i j ≡ false). let k : among i w ≡ true = rw t at h in rw (seen-is i j f p q e, t, number-met i more p m k))
       (either (eqb i j))
 
-  number-new : {w : List ℕ} {u : List Flag} (i : ℕ) (more : List ℕ) → P i → Matches w u → among i w ≡ false → number (codes i) u ≡ placeIn ((w ++ (i ∷ [])) ++ more) i
+  number-new : {w : List ℕ} {u : List Flag} (i : ℕ) (more : List ℕ) → P i → Matches w u → among i w ≡ false → number (codes i) u ≡ placeIn
+      ((w ++ (i ∷ [])) ++ more) i
   unfolding number placeIn among
   number-new i more p nothing h = rw (eq-eqb i i refl)
   number-new i more p (one {j} {w} {f} {u} q z e m) h =
@@ -125,7 +129,8 @@ module _ (codes : ℕ → Code) (P : ℕ → Type 0) (Q : Flag → Type 0) (apar
       (either (eqb i j))
 
   -- the number of a code is the place of its flag among all that will be met
-  pub number-is : {w : List ℕ} {u : List Flag} (i : ℕ) (all : List ℕ) → P i → Matches w u → Begins (met w (flag i)) all → number (codes i) u ≡ placeIn all i
+  pub number-is : {w : List ℕ} {u : List Flag} (i : ℕ) (all : List ℕ) → P i → Matches w u → Begins (met w (flag i)) all → number (codes i) u
+      ≡ placeIn all i
   unfolding met
   number-is {w} {u} i all p m b =
       ⊎-elim

@@ -10,7 +10,8 @@ use lib.ListN.{length}
 use lib.Dec.{eqb}
 use borrow.Author.Tests.{le-leb, ne-eqb}
 use Rattle.notation.specs.Ceilings.{codeCeiling}
-use Rattle.notation.specs.Tokens.{Sign, same, implies, or, and, Token, Tokens, code, hash, bang, sign, opening, closing, at, among, codeByte, codeRun, coded, hashed, marked, tokenOf, further, tokensFrom}
+use Rattle.notation.specs.Tokens.{Sign, same, implies, or, and, Token, Tokens, code, hash, bang, sign, opening, closing, at, among, codeByte, codeRun}
+use Rattle.notation.specs.Tokens.{coded, hashed, marked, tokenOf, further, tokensFrom}
 use Rattle.ground.specs.Choice.{choose}
 use Rattle.notation.specs.Grammar.{isSign, signNext, sameSign, past}
 use Rattle.operands.specs.contracts.Steps.{binding}
@@ -46,7 +47,8 @@ passed p (b ∷ c) rest = passed (suc p) c rest ∙ ap (λ (q : ℕ). tokensFrom
 branch : ℕ → ℕ → List ℕ → Bool → Tokens
 branch p b bs t = elim t [ true ↦ tokensFrom (suc p) 0 bs | false ↦ at p (tokenOf b bs) (tokensFrom (suc p) (further (tokenOf b bs)) bs) ]
 
-first-byte : (p b : ℕ) (bs : List ℕ) → eqb b 32 ≡ false → tokensFrom p 0 (b ∷ bs) ≡ at p (tokenOf b bs) (tokensFrom (suc p) (further (tokenOf b bs)) bs)
+first-byte : (p b : ℕ) (bs : List ℕ) → eqb b 32 ≡ false → tokensFrom p 0 (b ∷ bs) ≡ at p (tokenOf b bs)
+    (tokensFrom (suc p) (further (tokenOf b bs)) bs)
 unfolding tokensFrom branch
 first-byte p b bs e = ap (branch p b bs) e
 

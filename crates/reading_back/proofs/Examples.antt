@@ -9,7 +9,8 @@ use Rattle.notation.specs.Tokens.{Code, same, implies, or, and, codeByte, among
 use Rattle.notation.specs.Guard.{Guard, flag, truth, negated, joined, connectives}
 use Rattle.notation.specs.Reading.{reading, guard}
 use Rattle.reading_back.specs.Written as text
-use Rattle.reading_back.specs.Written.{signByte, levelOf, leftOf, rightOf, bracketed, written, nesting, Stands, met, order, placeIn, renamed, renumbered, before, flagsOf, codeBytes, IsCode, WithinCeilings}
+use Rattle.reading_back.specs.Written.{signByte, levelOf, leftOf, rightOf, bracketed, written, nesting, Stands, met, order, placeIn, renamed}
+use Rattle.reading_back.specs.Written.{renumbered, before, flagsOf, codeBytes, IsCode, WithinCeilings}
 use Rattle.reading_back.proofs.ReadBack.{read-back}
 
 -- flag 1 is `A`, flag 2 is `B`, flag 3 is `C`

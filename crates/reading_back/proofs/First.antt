@@ -48,7 +48,8 @@ module _ (codes : ℕ → Code) (P : ℕ → Type 0) (apart : (i j : ℕ) → P 
   abbrev Firsts : ℕ → Guard → ℕ → List ℕ → Type 0
   Firsts l g p w = (i : ℕ) → Stands i g → among i w ≡ false → first i ≡ p + before codes l g i
 
-  seen-flag : (i p : ℕ) (w : List ℕ) (u : List Flag) → P i → SeenFirst w u → (among i w ≡ false → first i ≡ p) → seen p (codes i) u ≡ map flagAt (met w (flag i))
+  seen-flag : (i p : ℕ) (w : List ℕ) (u : List Flag) → P i → SeenFirst w u → (among i w ≡ false → first i ≡ p) → seen p (codes i) u ≡ map
+      flagAt (met w (flag i))
   unfolding seen met
   seen-flag i p w u h x f =
       ⊎-elim
@@ -91,7 +92,8 @@ module _ (codes : ℕ → Code) (P : ℕ → Type 0) (apart : (i j : ℕ) → P 
       (right-firsts g k (leftOf s) (rightOf s) p n w b f)
 
 -- the flags seen after the whole text of a guard
-pub all-seen : (codes : ℕ → Code) (g : Guard) → ((i j : ℕ) → Stands i g → Stands j g → codes i ≡ codes j → i ≡ j) → seenAfter codes 0 g 0 [] ≡ flagsOf codes g
+pub all-seen : (codes : ℕ → Code) (g : Guard) → ((i j : ℕ) → Stands i g → Stands j g → codes i ≡ codes j → i ≡ j) → seenAfter codes 0 g
+    0 [] ≡ flagsOf codes g
 unfolding flagsOf order
 all-seen codes g apart =
     seen-first codes (λ i. Stands i g) apart (before codes 0 g) 0 g 0 [] [] (λ i e. e)

@@ -70,5 +70,6 @@ renumbered-same n g e =
     renamed-same (placeIn (order g)) g
     (λ i h. let there : among i (upTo n) ≡ true = rw e at (stands-order i g h) in rw e (place-up-to n i there))
 
-pub read-back-same : (codes : ℕ → Code) (n : ℕ) (g : Guard) → WithinCeilings codes g → order g ≡ upTo n → reading (written codes 0 g) ≡ guard g (flagsOf codes g)
+pub read-back-same : (codes : ℕ → Code) (n : ℕ) (g : Guard) → WithinCeilings codes g → order g ≡ upTo n → reading (written codes 0 g) ≡ guard
+    g (flagsOf codes g)
 read-back-same codes n g c e = read-back codes g c ∙ ap (λ (h : Guard). guard h (flagsOf codes g)) (renumbered-same n g e)

@@ -37,7 +37,8 @@ abbrev pub afterBoth : ℕ → After → After → After
 afterBoth n first second p u = second (suc (p + n)) (first p u)
 
 -- what is seen after the second text, from what is seen after the first
-both-seen : (v w u : List Flag) (p q n : ℕ) (a₁ a₂ : After) → v ≡ a₁ p u → q ≡ p + n → w ≡ a₂ (suc q) v → w ≡ afterBoth n a₁ a₂ p u
+both-seen : (v w u : List Flag) (p q n : ℕ) (a₁ a₂ : After) → v ≡ a₁ p u → q ≡ p + n → w ≡ a₂ (suc q) v → w ≡ afterBoth n a₁ a₂
+    p u
 both-seen v w u p q n a₁ a₂ e f k = cc
 
 -- past what stands first in the bytes from a place on
@@ -71,7 +72,8 @@ module _ (codes : ℕ → Code) (whole : Guard) (ceilings : WithinCeilings codes
     pub stops : Stops k rest
 
   -- the text of the guard g at place p ends before the rest, where R holds of the flags seen, the connectives counted and the place
-  pub record Back (R : List Flag → ℕ → ℕ → Type 0) (p : ℕ) (w : List ℕ) (u : List Flag) (text rest : List ℕ) (sees : After) (g : Guard) : Type 0 where
+  pub record Back (R : List Flag → ℕ → ℕ → Type 0) (p : ℕ) (w : List ℕ) (u : List Flag) (text rest : List ℕ) (sees : After) (g : Guard) : Type
+      0 where
     pub flags : List Flag
     pub count : ℕ
     pub place : ℕ
@@ -108,7 +110,8 @@ module _ (codes : ℕ → Code) (whole : Guard) (ceilings : WithinCeilings codes
   }
 
   -- a level that stops at more signs
-  looser : {n k j : ℕ} {g : Guard} {d m p : ℕ} {w : List ℕ} {u : List Flag} {text rest : List ℕ} → k ≤ j → Ready n j g d m p w u text rest → Ready n k g d m p w u text rest
+  looser : {n k j : ℕ} {g : Guard} {d m p : ℕ} {w : List ℕ} {u : List Flag} {text rest : List ℕ} → k ≤ j → Ready n j g d m p w u text rest
+      → Ready n k g d m p w u text rest
   looser l a = record {
     here = a .here;
     brackets = a .brackets;
@@ -121,7 +124,8 @@ module _ (codes : ℕ → Code) (whole : Guard) (ceilings : WithinCeilings codes
 
   module _ (s : Sign) (next : ℕ → Level) (k : ℕ) (tight : binding s ≡ k + 1) where
     -- the first operand of a chain
-    pub chain-start : {n : ℕ} {text : List ℕ} {sees : After} {g : Guard} → ReadsAs (λ d. plain (next d)) k n text sees g → ChainsAs s next k n text sees g
+    pub chain-start : {n : ℕ} {text : List ℕ} {sees : After} {g : Guard} → ReadsAs (λ d. plain (next d)) k n text sees g → ChainsAs s next k n text
+        sees g
     chain-start r d m p w u rest a = back-so (λ v i q x. chain-first s (next d) d k _ _ _ x) (r d m p w u rest a)
 
     -- a chain that does not go on
@@ -199,7 +203,8 @@ module _ (codes : ℕ → Code) (whole : Guard) (ceilings : WithinCeilings codes
       }
 
     -- one operand more joins a chain
-    pub chain-join : {n₁ n₂ : ℕ} {t₁ t₂ : List ℕ} {a₁ a₂ : After} {g h : Guard} → ChainsAs s next k n₁ t₁ a₁ g → ReadsAs (λ d. plain (next d)) k n₂ t₂ a₂ h →
+    pub chain-join : {n₁ n₂ : ℕ} {t₁ t₂ : List ℕ} {a₁ a₂ : After} {g h : Guard} → ChainsAs s next k n₁ t₁ a₁ g → ReadsAs
+        (λ d. plain (next d)) k n₂ t₂ a₂ h →
         ChainsAs s next k (max n₁ n₂) (t₁ ++ (signByte s ∷ t₂)) (afterBoth (length t₁) a₁ a₂) (joined s g h)
     unfolding renamed
     chain-join {n₁} {n₂} {t₁} {t₂} {a₁} {a₂} {g} {h} c r d m p w u rest a =
@@ -208,7 +213,8 @@ module _ (codes : ℕ → Code) (whole : Guard) (ceilings : WithinCeilings codes
         let y = r d (x .count + 1) (suc (x .place)) (met w g) (x .flags) rest there in
         back-both n₁ n₂ k d m p w u t₁ t₂ rest a x y
         (rw (append-assoc t₁ (signByte s ∷ t₂) rest)
-        (chain-more s (next d) d k _ _ _ (x .holds) (sign-next (x .place) s (t₂ ++ rest)) (fewer n₁ n₂ k d m p w u t₁ t₂ rest a (x .count) (x .holds .signs))
+        (chain-more s (next d) d k _ _ _ (x .holds) (sign-next (x .place) s (t₂ ++ rest))
+        (fewer n₁ n₂ k d m p w u t₁ t₂ rest a (x .count) (x .holds .signs))
         (rw (sign-past (x .place) s (t₂ ++ rest)) (y .holds))))
 
     -- an operand and all that follows, of a level that groups to the right
@@ -222,5 +228,6 @@ module _ (codes : ℕ → Code) (whole : Guard) (ceilings : WithinCeilings codes
         let y = r d (x .count + 1) (suc (x .place)) (met w g) (x .flags) rest there in
         back-both n₁ n₂ (k + 1) d m p w u t₁ t₂ rest a x y
         (rw (append-assoc t₁ (signByte s ∷ t₂) rest)
-        (right-two s (next d) d k _ _ _ (x .holds) (sign-next (x .place) s (t₂ ++ rest)) (fewer n₁ n₂ (k + 1) d m p w u t₁ t₂ rest a (x .count) (x .holds .signs))
+        (right-two s (next d) d k _ _ _ (x .holds) (sign-next (x .place) s (t₂ ++ rest))
+        (fewer n₁ n₂ (k + 1) d m p w u t₁ t₂ rest a (x .count) (x .holds .signs))
         (rw (sign-past (x .place) s (t₂ ++ rest)) (y .holds))))

@@ -26,7 +26,8 @@ code-walked : (d : ℕ) (u : List Flag) (m p : ℕ) (c : Code) (ts : Tokens) →
 unfolding walk within
 code-walked d u m p c ts h = rw (le-leb (length (seen p c u)) flagCeiling h)
 
-opening-walked : (d : ℕ) (u : List Flag) (m p : ℕ) (ts : Tokens) → d < bracketCeiling → walk operand d u m (at p opening ts) ≡ walk operand (suc d) u m ts
+opening-walked : (d : ℕ) (u : List Flag) (m p : ℕ) (ts : Tokens) → d < bracketCeiling → walk operand d u m (at p opening ts) ≡ walk operand (suc d)
+    u m ts
 unfolding walk within
 opening-walked d u m p ts h = rw (le-leb (suc d) bracketCeiling h)
 
@@ -34,7 +35,8 @@ closing-walked : (d : ℕ) (u : List Flag) (m p : ℕ) (ts : Tokens) → walk af
 unfolding walk
 closing-walked d u m p ts = refl
 
-code-parsed : (inner : Level) (u : List Flag) (p : ℕ) (c : Code) (ts : Tokens) → operandOf inner u (at p (code c) ts) ≡ found (flag (number c u)) (seen p c u) ts
+code-parsed : (inner : Level) (u : List Flag) (p : ℕ) (c : Code) (ts : Tokens) → operandOf inner u (at p (code c) ts) ≡ found (flag (number c u))
+    (seen p c u) ts
 unfolding operandOf
 code-parsed inner u p c ts = refl
 
@@ -79,7 +81,8 @@ module _ (codes : ℕ → Code) (whole : Guard) (ceilings : WithinCeilings codes
         there = after-part (written codes 0 whole) (codes i) rest p (a .here);
         matches = v;
         holds = record {
-          parsed = λ f h. rw cut (code-parsed (inBrackets (bracketCeiling - d)) u p (codes i) ts ∙ ap (λ (j : ℕ). found (flag j) (seen p (codes i) u) ts) is);
+          parsed = λ f h. rw cut (code-parsed (inBrackets (bracketCeiling - d)) u p (codes i) ts ∙ ap
+              (λ (j : ℕ). found (flag j) (seen p (codes i) u) ts) is);
           walked = rw cut (code-walked d u m p (codes i) ts few);
           signs = omega arith;
           stops = λ t h. absurd (no-tighter t h);
@@ -106,7 +109,8 @@ module _ (codes : ℕ → Code) (whole : Guard) (ceilings : WithinCeilings codes
   }
 
   -- `!` and an operand
-  pub negated-back : {n : ℕ} {text : List ℕ} {sees : After} {g : Guard} → OperandAs n text sees g → OperandAs n (33 ∷ text) (λ p u. sees (suc p) u) (negated g)
+  pub negated-back : {n : ℕ} {text : List ℕ} {sees : After} {g : Guard} → OperandAs n text sees g → OperandAs n (33 ∷ text) (λ p u. sees (suc p) u)
+      (negated g)
   unfolding renamed connectives met walk
   negated-back {n} {text} {sees} {g} r d m p w u rest a =
       let x = r d m (suc p) w u rest (record {
@@ -135,7 +139,8 @@ module _ (codes : ℕ → Code) (whole : Guard) (ceilings : WithinCeilings codes
       }
 
   -- a guard in brackets
-  pub bracket-back : {n : ℕ} {text : List ℕ} {sees : After} {g : Guard} → ReadsAs codes whole ceilings (λ d. plain (sameOf (operandsAt d))) 4 n text sees g →
+  pub bracket-back : {n : ℕ} {text : List ℕ} {sees : After} {g : Guard} → ReadsAs codes whole ceilings (λ d. plain (sameOf (operandsAt d))) 4 n text
+      sees g →
       OperandAs (1 + n) (40 ∷ (text ++ (41 ∷ []))) (λ p u. sees (suc p) u) g
   bracket-back {n} {text} {sees} {g} r d m p w u rest a =
       let regrouped : (text ++ (41 ∷ [])) ++ rest ≡ text ++ (41 ∷ rest) = append-assoc text (41 ∷ []) rest in
@@ -160,8 +165,10 @@ module _ (codes : ℕ → Code) (whole : Guard) (ceilings : WithinCeilings codes
         there = after-byte (written codes 0 whole) 41 rest (x .place) (x .there);
         matches = x .matches;
         holds = record {
-          parsed = λ f h. rw cut (bracket-parsed d u p (x .place) _ _ _ _ room (x .holds .parsed f h ∙ ap (λ (ts : Tokens). found (numbered codes whole ceilings g) (x .flags) ts) shut));
-          walked = rw cut (opening-walked d u m p _ room ∙ x .holds .walked ∙ ap (walk after (suc d) (x .flags) (x .count)) shut ∙ closing-walked d (x .flags) (x .count) (x .place) _);
+          parsed = λ f h. rw cut (bracket-parsed d u p (x .place) _ _ _ _ room
+              (x .holds .parsed f h ∙ ap (λ (ts : Tokens). found (numbered codes whole ceilings g) (x .flags) ts) shut));
+          walked = rw cut (opening-walked d u m p _ room ∙ x .holds .walked ∙ ap (walk after (suc d) (x .flags) (x .count)) shut ∙ closing-walked d
+              (x .flags) (x .count) (x .place) _);
           signs = x .holds .signs;
           stops = λ t h. absurd (no-tighter t h);
         };

@@ -21,7 +21,8 @@ use Rattle.reading_back.proofs.Trees.{levelsAt, seenAfter, reads-back}
 
 -- where the walk accepts and the loosest level finds a guard, that guard is read
 read-found : (text : List ℕ) (g : Guard) (u : List Flag) (m : ℕ) (ts : Tokens) → length text ≤ textCeiling →
-    walk operand 0 [] 0 (tokensFrom 0 0 text) ≡ accepted u m → sameOf (operandsAt 0) [] (tokensFrom 0 0 text) ≡ found g u ts → reading text ≡ guard g u
+    walk operand 0 [] 0 (tokensFrom 0 0 text) ≡ accepted u m → sameOf (operandsAt 0) [] (tokensFrom 0 0 text) ≡ found g u ts → reading text ≡ guard
+    g u
 unfolding reading judged tree treeOf tokens
 read-found text g u m ts h w f = rw (le-leb (length text) textCeiling h, w) (ap (λ (x : Guard). guard x u) (ap treeOf f))
 

@@ -31,11 +31,13 @@ unfolding flagsOf
 flags-length codes g = length-map (order g) _
 
 -- the answer of read, and the room afterwards, where there is room for the triplets
-answer-of : (h : Guard) (u : List Flag) (n c : ℕ) (room : ℕ) → length u ≡ n → connectives h ≡ c → 3 * c ≤ room → readAnswer (guard h u) room ≡ guardWith n c (literal 0 h)
+answer-of : (h : Guard) (u : List Flag) (n c : ℕ) (room : ℕ) → length u ≡ n → connectives h ≡ c → 3 * c ≤ room → readAnswer (guard h u) room
+    ≡ guardWith n c (literal 0 h)
 unfolding readAnswer
 answer-of h u n c room e f l = rw (e, f, le-leb (3 * c) room l)
 
-room-of : (h : Guard) (u : List Flag) (c : ℕ) (room : List ℕ) → connectives h ≡ c → 3 * c ≤ length room → roomAfter (guard h u) room ≡ numbers (triplets 0 h) ++ drop (3 * c) room
+room-of : (h : Guard) (u : List Flag) (c : ℕ) (room : List ℕ) → connectives h ≡ c → 3 * c ≤ length room → roomAfter (guard h u) room ≡ numbers
+    (triplets 0 h) ++ drop (3 * c) room
 unfolding roomAfter
 room-of h u c room f l = rw (f, le-leb (3 * c) (length room) l)
 
@@ -53,11 +55,13 @@ part-of text f e =
     let long : length (f .name) ≤ length (drop (f .place) text) = rw e at (take-within (length (f .name)) (drop (f .place) text)) in
     ⊎-elim
     (λ (t : leb (f .place + length (f .name)) (length text) ≡ true). rw t e)
-    (λ (t : leb (f .place + length (f .name)) (length text) ≡ false). rw t (no-bytes (f .name) (omega (arith, leb-false (f .place + length (f .name)) (length text) t, length-drop (f .place) text))))
+    (λ (t : leb (f .place + length (f .name)) (length text) ≡ false). rw t
+    (no-bytes (f .name) (omega (arith, leb-false (f .place + length (f .name)) (length text) t, length-drop (f .place) text))))
     (either (leb (f .place + length (f .name)) (length text)))
 
 -- the flag j of a list, counted from 0
-name-of : (text : List ℕ) (f : ℕ → Flag) (w : List ℕ) (j : ℕ) → EachPlaced text (map f w) → j < length w → partOf text (nameIn (map f w) (suc j)) ≡ f (getD w j 0) .name
+name-of : (text : List ℕ) (f : ℕ → Flag) (w : List ℕ) (j : ℕ) → EachPlaced text (map f w) → j < length w → partOf text
+    (nameIn (map f w) (suc j)) ≡ f (getD w j 0) .name
 unfolding nameIn
 name-of text f [] j e h = absurd (not-suc-le-zero h)
 name-of text f (i ∷ w) zero e h = part-of text (f i) (e .0)
@@ -76,7 +80,8 @@ module _ (codes : ℕ → Code) (g : Guard) (ceilings : WithinCeilings codes g) 
   )
 
   -- the part of the text that name answers for the flag j, counted from 0, is its code
-  pub name-answers : (j : ℕ) → j < length (order g) → partOf (written codes 0 g) (nameAnswer (reading (written codes 0 g)) (suc j)) ≡ codes (getD (order g) j 0)
+  pub name-answers : (j : ℕ) → j < length (order g) → partOf (written codes 0 g) (nameAnswer (reading (written codes 0 g)) (suc j)) ≡ codes
+      (getD (order g) j 0)
   unfolding nameAnswer flagsOf
   name-answers j h =
       ap (λ (x : Reading). partOf (written codes 0 g) (nameAnswer x (suc j))) (read-back codes g ceilings)

@@ -86,7 +86,8 @@ module _ (codes : ℕ → Code) (whole : Guard) (ceilings : WithinCeilings codes
   LeftAs and n text sees g = ChainsAs codes whole ceilings and (λ d. operandsAt d) 0 n text sees g
 
   -- the level of `>` within that of `=`
-  implied : {n : ℕ} {text : List ℕ} {sees : After} {g : Guard} → LevelAs 1 n text sees g → ReadsAs codes whole ceilings (λ d. plain (impliesOf (operandsAt d))) 3 n text sees g
+  implied : {n : ℕ} {text : List ℕ} {sees : After} {g : Guard} → LevelAs 1 n text sees g → ReadsAs codes whole ceilings
+      (λ d. plain (impliesOf (operandsAt d))) 3 n text sees g
   unfolding impliesOf
   implied r = right-whole codes whole ceilings implies (λ d. orOf (operandsAt d)) 2 refl r
 
@@ -99,7 +100,8 @@ module _ (codes : ℕ → Code) (whole : Guard) (ceilings : WithinCeilings codes
   left-start and r = chain-start codes whole ceilings and (λ d. operandsAt d) 0 refl r
 
   -- a chain that goes on
-  left-join : (s : Sign) → leftOf s ≡ levelOf s → (n₁ : ℕ) (t₁ : List ℕ) (a₁ : After) (g : Guard) {n₂ : ℕ} {t₂ : List ℕ} {a₂ : After} {h : Guard} → LeftAs s n₁ t₁ a₁ g → LevelAs (rightOf s) n₂ t₂ a₂ h →
+  left-join : (s : Sign) → leftOf s ≡ levelOf s → (n₁ : ℕ) (t₁ : List ℕ) (a₁ : After) (g : Guard) {n₂ : ℕ} {t₂ : List ℕ}
+      {a₂ : After} {h : Guard} → LeftAs s n₁ t₁ a₁ g → LevelAs (rightOf s) n₂ t₂ a₂ h →
       LeftAs s (max n₁ n₂) (t₁ ++ (signByte s ∷ t₂)) (afterBoth (length t₁) a₁ a₂) (joined s g h)
   unfolding levelOf leftOf rightOf
   left-join same e n t a g x y = chain-join codes whole ceilings same (λ d. impliesOf (operandsAt d)) 3 refl x (implied y)
@@ -108,7 +110,8 @@ module _ (codes : ℕ → Code) (whole : Guard) (ceilings : WithinCeilings codes
   left-join and e n t a g x y = chain-join codes whole ceilings and (λ d. operandsAt d) 0 refl x y
 
   -- two guards joined by a sign are read at its level
-  own-level : (s : Sign) (n₁ : ℕ) (t₁ : List ℕ) (a₁ : After) (g : Guard) {n₂ : ℕ} {t₂ : List ℕ} {a₂ : After} {h : Guard} → LeftAs s n₁ t₁ a₁ g → LevelAs (rightOf s) n₂ t₂ a₂ h →
+  own-level : (s : Sign) (n₁ : ℕ) (t₁ : List ℕ) (a₁ : After) (g : Guard) {n₂ : ℕ} {t₂ : List ℕ} {a₂ : After} {h : Guard} → LeftAs s n₁
+      t₁ a₁ g → LevelAs (rightOf s) n₂ t₂ a₂ h →
       LevelAs (levelOf s) (max n₁ n₂) (t₁ ++ (signByte s ∷ t₂)) (afterBoth (length t₁) a₁ a₂) (joined s g h)
   unfolding levelOf rightOf sameOf orOf andOf
   own-level same n t a g x y =
@@ -134,7 +137,8 @@ module _ (codes : ℕ → Code) (whole : Guard) (ceilings : WithinCeilings codes
   looser-by-one (suc (suc (suc (suc l)))) h r = absurd (omega arith)
 
   -- and so does each looser one
-  loosened : (j l : ℕ) → l ≤ j → j ≤ 4 → {n : ℕ} {text : List ℕ} {sees : After} {g : Guard} → LevelAs j n text sees g → LevelAs l n text sees g
+  loosened : (j l : ℕ) → l ≤ j → j ≤ 4 → {n : ℕ} {text : List ℕ} {sees : After} {g : Guard} → LevelAs j n text sees g → LevelAs l n text
+      sees g
   loosened zero zero h k r = r
   loosened zero (suc l) h k r = absurd (omega arith)
   loosened (suc j) l h k {n} {text} {sees} {g} r =
@@ -205,10 +209,12 @@ module _ (codes : ℕ → Code) (whole : Guard) (ceilings : WithinCeilings codes
     joined-back = record { level = at-level; left = on-the-left }
 
   -- an operand stands at every level as it is
-  operand-levels : {n : ℕ} {text : List ℕ} {sees : After} {g : Guard} → OperandAs codes whole ceilings n text sees g → (l : ℕ) → l ≤ 4 → LevelAs l n text sees g
+  operand-levels : {n : ℕ} {text : List ℕ} {sees : After} {g : Guard} → OperandAs codes whole ceilings n text sees g → (l : ℕ) → l ≤ 4
+      → LevelAs l n text sees g
   operand-levels r l h = loosened 4 l h (omega arith) r
 
-  operand-left : {n : ℕ} {text : List ℕ} {sees : After} {g : Guard} → OperandAs codes whole ceilings n text sees g → (s : Sign) → LeftAs s n text sees g
+  operand-left : {n : ℕ} {text : List ℕ} {sees : After} {g : Guard} → OperandAs codes whole ceilings n text sees g → (s : Sign) → LeftAs s n text
+      sees g
   operand-left r s = left-start s (operand-levels r (suc (levelOf s)) (level-below s))
 
   -- every tree over the flags of the whole

@@ -248,7 +248,8 @@ fresh-done xs n h all v =
     ⊎-elim (λ (p : v < n). all v p) (λ (p : n ≤ v). List·getD-eq-default xs (2 * v) (omega arith)) (lt-or-ge v n)
 
 -- after a store at v: what holds of the entries below v and of what is stored holds below v + 1
-pub stored-below : (P : ℕ → ℕ) (xs : List ℕ) (v w : ℕ) → v < length xs → ((u : ℕ) → u < v → entry xs u ≡ P u) → w ≡ P v → (u : ℕ) → u < v + 1 → entry (set xs v w) u ≡ P u
+pub stored-below : (P : ℕ → ℕ) (xs : List ℕ) (v w : ℕ) → v < length xs → ((u : ℕ) → u < v → entry xs u ≡ P u) → w ≡ P v
+    → (u : ℕ) → u < v + 1 → entry (set xs v w) u ≡ P u
 stored-below P xs v w h all here u p =
     ⊎-elim
     (λ (q : u ≡ v). rw q (getD-set-same xs v w (2 * v) h ∙ here))

@@ -16,7 +16,8 @@ use Rattle.relation.specs.contracts.Keeping.{Leaders, Joined}
 use Rattle.ground.proofs.Cases.{split-eq}
 use Rattle.relation.proofs.LiteralLaws.{sign-add, signed-half, signed-sign, literal-eq, same-variable}
 use Rattle.relation.proofs.RelationLaws.{signed-both, least-none, least-across, least-turned}
-use Rattle.relation.proofs.ClassLaws.{lead-half, lead-sign, lead-is, relation-all, same-leads, leads-same, is-relation, true-leads, contradictory-at, leader-stands, lead-twice, lead-lower, leads-to, stored-other}
+use Rattle.relation.proofs.ClassLaws.{lead-half, lead-sign, lead-is, relation-all, same-leads, leads-same, is-relation, true-leads}
+use Rattle.relation.proofs.ClassLaws.{contradictory-at, leader-stands, lead-twice, lead-lower, leads-to, stored-other}
 
 pub moved-goes : (lo hi w : ℕ) → w / 2 ≡ hi / 2 → moved lo hi w ≡ signed lo (w + hi)
 unfolding moved
@@ -107,7 +108,8 @@ merged-consistent n f lo hi k s =
     (ap (moved lo hi) (true-leads n f k (s .consistent)) ∙ moved-stays lo hi 0 (λ q. omega (arith, s .less)))
 
 -- every relation above that of f with lo = hi holds that a literal equals what its leader has become
-leads-forced : (n : ℕ) (f : ℕ → ℕ) (lo hi : ℕ) → Canonical n f → Leaders n f lo hi → (A : Rel) → IsRelation A → Within (relation f) A → A lo hi ≡ true → (l : ℕ) → A l (moved lo hi (lead f l)) ≡ true
+leads-forced : (n : ℕ) (f : ℕ → ℕ) (lo hi : ℕ) → Canonical n f → Leaders n f lo hi → (A : Rel) → IsRelation A → Within (relation f) A
+    → A lo hi ≡ true → (l : ℕ) → A l (moved lo hi (lead f l)) ≡ true
 leads-forced n f lo hi k s A r w h l =
     ⊎-elim
     (λ (p : lead f l / 2 ≡ hi / 2). goes p)
@@ -131,7 +133,8 @@ leads-forced n f lo hi k s A r w h l =
         (signed-both A r hi lo (lead f l + hi) (r .symmetric lo hi h))))
 
 -- joining two leaders of a consistent array
-pub merging : (n : ℕ) (f : ℕ → ℕ) (lo hi : ℕ) → Canonical n f → Leaders n f lo hi → Canonical n (merged f lo hi) × Least (Holds lo hi) (relation f) (relation (merged f lo hi))
+pub merging : (n : ℕ) (f : ℕ → ℕ) (lo hi : ℕ) → Canonical n f → Leaders n f lo hi → Canonical n (merged f lo hi) × Least (Holds lo hi)
+    (relation f) (relation (merged f lo hi))
 merging n f lo hi k s = (
   merged-canonical n f lo hi k s,
   record {
@@ -160,7 +163,8 @@ merging n f lo hi k s = (
         ∙ sym (ap (moved lo hi) (s .high) ∙ moved-goes lo hi hi refl ∙ turned)
 
 -- joining a literal and its negation: all are equal
-pub breaking : (n : ℕ) (f g : ℕ → ℕ) (a b : ℕ) → Canonical n f → lead f a / 2 ≡ lead f b / 2 → (lead f a ≡ lead f b → ⊥) → contradictory g ≡ true → Least (Holds a b) (relation f) (relation g)
+pub breaking : (n : ℕ) (f g : ℕ → ℕ) (a b : ℕ) → Canonical n f → lead f a / 2 ≡ lead f b / 2 → (lead f a ≡ lead f b → ⊥)
+    → contradictory g ≡ true → Least (Holds a b) (relation f) (relation g)
 breaking n f g a b k p d c =
     record {
       relation = is-relation g;
@@ -184,7 +188,8 @@ pub moved-beyond : (n : ℕ) (f : ℕ → ℕ) (lo hi v : ℕ) → Canonical n f
 moved-beyond n f lo hi v k s h = sym (moved-stays lo hi (f v) (λ q. omega (arith, k .beyond v h, s .inside)))
 
 -- an array of which each entry has moved keeps the joined relation
-pub merge-done : (n : ℕ) (xs ys : List ℕ) (lo hi : ℕ) → Classes n xs → Leaders n (entry xs) lo hi → length ys ≡ variableCeiling → ((v : ℕ) → entry ys v ≡ moved lo hi (entry xs v)) → Joined n xs lo hi ys
+pub merge-done : (n : ℕ) (xs ys : List ℕ) (lo hi : ℕ) → Classes n xs → Leaders n (entry xs) lo hi → length ys ≡ variableCeiling
+    → ((v : ℕ) → entry ys v ≡ moved lo hi (entry xs v)) → Joined n xs lo hi ys
 merge-done n xs ys lo hi k s long all =
     record {
       classes = record { long = long; fits = k .fits; canonical = subst (λ (g : ℕ → ℕ). Canonical n g) done (joined .0) };
@@ -198,7 +203,8 @@ merge-done n xs ys lo hi k s long all =
     joined = merging n (entry xs) lo hi (k .canonical) s
 
 -- a contradictory array stays canonical
-pub broken-canonical : (n : ℕ) (f g : ℕ → ℕ) → 0 < n → Canonical n f → g 0 ≡ 1 → ((v : ℕ) → (v ≡ 0 → ⊥) → g v ≡ f v) → Canonical n g
+pub broken-canonical : (n : ℕ) (f g : ℕ → ℕ) → 0 < n → Canonical n f → g 0 ≡ 1 → ((v : ℕ) → (v ≡ 0 → ⊥) → g v ≡ f v)
+    → Canonical n g
 broken-canonical n f g h k z e =
     record {
       lower = λ v. ⊎-elim (λ (p : v ≡ 0). rw (p, z) (omega arith)) (λ (p : v ≡ 0 → ⊥). rw (e v p) (k .lower v)) (split-eq v 0);
@@ -213,7 +219,8 @@ broken-canonical n f g h k z e =
     at v p q = e (g v / 2) (λ r. omega arith) ∙ subst (λ (w : ℕ). f (w / 2) ≡ 2 * (w / 2)) (sym (e v p)) (k .leader v (rw (← e v p) q))
 
 -- two literals that lead apart give leaders to join
-pub leaders-of : (n : ℕ) (f : ℕ → ℕ) (l m a b : ℕ) → Canonical n f → contradictory f ≡ false → a ≡ lead f l → b ≡ lead f m → a / 2 < b / 2 → m / 2 < n → Leaders n f a b
+pub leaders-of : (n : ℕ) (f : ℕ → ℕ) (l m a b : ℕ) → Canonical n f → contradictory f ≡ false → a ≡ lead f l → b ≡ lead f m → a / 2
+    < b / 2 → m / 2 < n → Leaders n f a b
 leaders-of n f l m a b k c p q h i =
     record {
       consistent = c;
@@ -224,11 +231,13 @@ leaders-of n f l m a b k c p q h i =
     }
 
 -- joining where two literals lead is joining the literals
-pub joined-leads : (n : ℕ) (xs ys : List ℕ) (l m a b : ℕ) → Classes n xs → a ≡ lead (entry xs) l → b ≡ lead (entry xs) m → Joined n xs a b ys → Joined n xs l m ys
+pub joined-leads : (n : ℕ) (xs ys : List ℕ) (l m a b : ℕ) → Classes n xs → a ≡ lead (entry xs) l → b ≡ lead (entry xs) m → Joined n xs a b
+    ys → Joined n xs l m ys
 joined-leads n xs ys l m a b k p q j =
     record {
       classes = j .classes;
-      least = least-across (kept xs) (kept ys) l a m b (is-relation (entry xs)) (rw p (leads-to n (entry xs) (k .canonical) l)) (rw q (leads-to n (entry xs) (k .canonical) m)) (j .least);
+      least = least-across (kept xs) (kept ys) l a m b (is-relation (entry xs)) (rw p (leads-to n (entry xs) (k .canonical) l))
+          (rw q (leads-to n (entry xs) (k .canonical) m)) (j .least);
     }
 
 pub joined-turned : (n : ℕ) (xs ys : List ℕ) (l m : ℕ) → Joined n xs m l ys → Joined n xs l m ys
@@ -240,7 +249,8 @@ joined-none n xs l m k e =
     record { classes = k; least = least-none (Holds l m) (kept xs) (is-relation (entry xs)) e }
 
 -- a literal and its negation are joined by making true false
-pub joined-broken : (n : ℕ) (xs : List ℕ) (l m : ℕ) → Classes n xs → l / 2 < n → lead (entry xs) l / 2 ≡ lead (entry xs) m / 2 → (lead (entry xs) l ≡ lead (entry xs) m → ⊥) → Joined n xs l m (set xs 0 1)
+pub joined-broken : (n : ℕ) (xs : List ℕ) (l m : ℕ) → Classes n xs → l / 2 < n → lead (entry xs) l / 2 ≡ lead (entry xs) m / 2
+    → (lead (entry xs) l ≡ lead (entry xs) m → ⊥) → Joined n xs l m (set xs 0 1)
 joined-broken n xs l m k i p d =
     record {
       classes = record {

@@ -32,7 +32,8 @@ chosen-most true = omega arith
 chosen-most false = omega arith
 
 -- a count of 1 and the variables below v goes on with that of v
-pub counted-on : (v : ℕ) (f : ℕ → ℕ) (count one : ℕ) → count ≡ 1 + own v f → one ≡ choose (eqb (f v) (2 * v)) 1 0 → count + one ≡ 1 + own (v + 1) f
+pub counted-on : (v : ℕ) (f : ℕ → ℕ) (count one : ℕ) → count ≡ 1 + own v f → one ≡ choose (eqb (f v) (2 * v)) 1 0 → count + one ≡ 1 +
+    own (v + 1) f
 counted-on v f count one p q = omega (arith, own-step v f)
 
 pub own-none : (f : ℕ → ℕ) → own 0 f ≡ 0
@@ -168,7 +169,8 @@ above-same n f g a h l m e = leads-same f l m (sym (fixed l) ∙ same-leads g (a
         (omega (arith, own-leader j))
 
 -- where the new relation is above the old one and its rank is no smaller, it is also below it
-pub rank-settles : (n : ℕ) (f g : ℕ → ℕ) → Canonical n f → Canonical n g → Within (relation f) (relation g) → rank n f ≤ rank n g → Within (relation g) (relation f)
+pub rank-settles : (n : ℕ) (f g : ℕ → ℕ) → Canonical n f → Canonical n g → Within (relation f) (relation g) → rank n f ≤ rank n g → Within
+    (relation g) (relation f)
 rank-settles n f g k k′ w h =
     ⊎-elim
     (λ (c : contradictory f ≡ true). λ l m e. relation-all f c l m)

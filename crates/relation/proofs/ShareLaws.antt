@@ -109,12 +109,14 @@ tested-agrees : (xs ys : List ℕ) (v u s : ℕ) → v < length xs → v < lengt
 tested-agrees xs ys v u s a b h =
     rw (entry-at xs u 0 (omega arith), entry-at xs v 0 a, entry-at ys u 0 (omega arith), entry-at ys v 0 b) refl
 
-pub test-found : (xs ys : List ℕ) (v u : ℕ) (b : Bool) → v < length xs → v < length ys → u < v → NoneBelow (entry xs) (entry ys) v u → b ≡ tested xs ys v u (against xs v u) → b ≡ true → SharedLeader (entry xs) (entry ys) v (2 * u + against xs v u)
+pub test-found : (xs ys : List ℕ) (v u : ℕ) (b : Bool) → v < length xs → v < length ys → u < v → NoneBelow (entry xs) (entry ys) v u → b
+    ≡ tested xs ys v u (against xs v u) → b ≡ true → SharedLeader (entry xs) (entry ys) v (2 * u + against xs v u)
 test-found xs ys v u b p q h none e t =
     shared-found (entry xs) (entry ys) v u (against xs v u) (omega arith) h none
     (sym (tested-agrees xs ys v u (against xs v u) p q h) ∙ sym e ∙ t)
 
-pub test-next : (xs ys : List ℕ) (v u : ℕ) (b : Bool) → v < length xs → v < length ys → u < v → NoneBelow (entry xs) (entry ys) v u → b ≡ tested xs ys v u (against xs v u) → b ≡ false → NoneBelow (entry xs) (entry ys) v (u + 1)
+pub test-next : (xs ys : List ℕ) (v u : ℕ) (b : Bool) → v < length xs → v < length ys → u < v → NoneBelow (entry xs) (entry ys) v u → b
+    ≡ tested xs ys v u (against xs v u) → b ≡ false → NoneBelow (entry xs) (entry ys) v (u + 1)
 test-next xs ys v u b p q h none e t =
     none-next (entry xs) (entry ys) v u (against xs v u)
     (ap₂ (λ (a c : ℕ). (a + c) % 2) (entry-at xs v 0 p) (entry-at xs u 0 (omega arith))) none
@@ -290,7 +292,8 @@ common-second R S all l m =
     bool-eq (S l m) (common R S l m) (λ p. common-true R S l m (all l m) p) (λ p. common-both R S l m p .1)
 
 -- while some variables have their shared leader and the others are the old ones, none leads upwards
-pub still-lower : (n : ℕ) (xs zs ys : List ℕ) (v : ℕ) → Classes n xs → length zs ≡ variableCeiling → ((u : ℕ) → u < v → entry zs u ≡ entry xs u) → ((u : ℕ) → v ≤ u → SharedLeader (entry xs) (entry ys) u (entry zs u)) → Lower zs
+pub still-lower : (n : ℕ) (xs zs ys : List ℕ) (v : ℕ) → Classes n xs → length zs ≡ variableCeiling
+    → ((u : ℕ) → u < v → entry zs u ≡ entry xs u) → ((u : ℕ) → v ≤ u → SharedLeader (entry xs) (entry ys) u (entry zs u)) → Lower zs
 still-lower n xs zs ys v k long old new =
     record {
       long = long;
@@ -302,7 +305,8 @@ still-lower n xs zs ys v k long old new =
     }
 
 -- when each variable has its shared leader, the array keeps what the two share
-pub shared-done : (n : ℕ) (xs ys zs : List ℕ) → Classes n xs → Classes n ys → entry xs 0 ≡ 0 → entry ys 0 ≡ 0 → length zs ≡ variableCeiling → ((v : ℕ) → SharedLeader (entry xs) (entry ys) v (entry zs v)) → Shared n xs ys zs
+pub shared-done : (n : ℕ) (xs ys zs : List ℕ) → Classes n xs → Classes n ys → entry xs 0 ≡ 0 → entry ys 0 ≡ 0 → length zs
+    ≡ variableCeiling → ((v : ℕ) → SharedLeader (entry xs) (entry ys) v (entry zs v)) → Shared n xs ys zs
 shared-done n xs ys zs k k′ a b long all =
     record { classes = record { long = long; fits = k .fits; canonical = met .0 }; both = met .1 }
   where

@@ -17,7 +17,8 @@ pub evaluated-more : (n width c j : ℕ) (xs rows rows′ after : List ℕ) → 
 evaluated-more n width c j xs rows rows′ after small shape h e m =
     record {
       long = m .long ∙ e .long;
-      valued = λ s b. valued-more n s c xs small shape j (inRow rows′ width s) (inRow after width s) h (e .valued s b) (λ u p. m .kept s u b p) (m .made s b);
+      valued = λ s b. valued-more n s c xs small shape j (inRow rows′ width s) (inRow after width s) h (e .valued s b) (λ u p. m .kept s u b p)
+          (m .made s b);
     }
 
 -- the flags' rows are still right

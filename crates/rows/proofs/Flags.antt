@@ -93,7 +93,8 @@ row-kept : (rows after : List ℕ) (width s i j : ℕ) → s < wordBits * width 
 unfolding inRow
 row-kept rows after width s i j h b kept = ap (λ u. bit u (s % wordBits)) (kept (j * width + s / wordBits) (digits-lt b (omega arith)))
 
-pub first-more : (n width i p : ℕ) (rows rows′ after : List ℕ) → FirstFlags n width i rows rows′ → RowMade rows′ ((i + 1) * width) width (WordOf p) after
+pub first-more : (n width i p : ℕ) (rows rows′ after : List ℕ) → FirstFlags n width i rows rows′ → RowMade rows′ ((i + 1) * width) width
+    (WordOf p) after
     → p ≡ n - (i + 1) → FirstFlags n width (i + 1) rows after
 first-more n width i p rows rows′ after f made e =
     let m : RowMade rows′ ((i + 1) * width) width (WordOf (n - (i + 1))) after = rw e at made in

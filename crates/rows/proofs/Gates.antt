@@ -39,7 +39,8 @@ implies-or true b = refl
 implies-or false b = refl
 
 -- where two differ, and two others, is where the first of each differ, and the second
-same-turned : (u t p q : Bool) → not (table same (not (table same u t)) (not (table same p q))) ≡ not (table same (not (table same u p)) (not (table same t q)))
+same-turned : (u t p q : Bool) → not (table same (not (table same u t)) (not (table same p q))) ≡ not
+    (table same (not (table same u p)) (not (table same t q)))
 unfolding table
 same-turned true true true true = refl
 same-turned true true true false = refl
@@ -79,7 +80,8 @@ pub turned-other : (l a b : ℕ) → b < wordBits → bit (bitXor a (turned (l +
 turned-other l a b h =
     ⊎-elim
     (λ (e : l % 2 ≡ 0). rw (turned-bit (l + 1) a b h, eq-eqb (l % 2) 0 e, ne-eqb ((l + 1) % 2) 0 (λ (z : (l + 1) % 2 ≡ 0). omega arith)))
-    (λ (e : l % 2 ≡ 1). rw (turned-bit (l + 1) a b h, ne-eqb (l % 2) 0 (λ (z : l % 2 ≡ 0). omega arith), eq-eqb ((l + 1) % 2) 0 (omega arith)) (sym (Bool·not-not (bit a b))))
+    (λ (e : l % 2 ≡ 1). rw (turned-bit (l + 1) a b h, ne-eqb (l % 2) 0 (λ (z : l % 2 ≡ 0). omega arith), eq-eqb ((l + 1) % 2) 0 (omega arith))
+    (sym (Bool·not-not (bit a b))))
     (parity l)
 
 -- two words that differ, turned together, are where each of them, turned, differs
@@ -117,12 +119,25 @@ module _ (xs : List ℕ) (j : ℕ) (rows : List ℕ) (width : ℕ) (after : List
       record {
         long = m .long;
         made = λ s h.
-            rw (← ex, m .made (s / wordBits) (omega arith), ey, ez, bit-or (bitXor (getD rows (yAt xs j / 2 * width + s / wordBits) 0) (turned (yAt xs j + 1))) (bitXor (getD rows (zAt xs j / 2 * width + s / wordBits) 0) (turned (zAt xs j))) (s % wordBits), turned-other (yAt xs j) (getD rows (yAt xs j / 2 * width + s / wordBits) 0) (s % wordBits) (omega arith), turned-bit (zAt xs j) (getD rows (zAt xs j / 2 * width + s / wordBits) 0) (s % wordBits) (omega arith))
+            rw (
+              ← ex,
+              m .made (s / wordBits) (omega arith),
+              ey,
+              ez,
+              bit-or
+                  (bitXor (getD rows (yAt xs j / 2 * width + s / wordBits) 0) (turned (yAt xs j + 1)))
+                  (bitXor (getD rows (zAt xs j / 2 * width + s / wordBits) 0) (turned (zAt xs j))) (s % wordBits),
+              turned-other (yAt xs j)
+                  (getD rows (yAt xs j / 2 * width + s / wordBits) 0) (s % wordBits) (omega arith),
+              turned-bit (zAt xs j)
+                  (getD rows (zAt xs j / 2 * width + s / wordBits) 0) (s % wordBits) (omega arith),
+            )
             (implies-or _ _ ∙ sym (gate-zero (kindAt xs j) _ _ k));
         kept = kept-row x _ ex m;
       }
 
-  pub xor-made : (x ty tz : ℕ) → x ≡ tripletVariable (suc j) * width → ty ≡ turned (yAt xs j + 1) → tz ≡ turned (zAt xs j) → (kindAt xs j ≡ 0 → ⊥)
+  pub xor-made : (x ty tz : ℕ) → x ≡ tripletVariable (suc j) * width → ty ≡ turned (yAt xs j + 1) → tz ≡ turned (zAt xs j)
+      → (kindAt xs j ≡ 0 → ⊥)
       → RowOf (λ a b. bitXor (bitXor a b) (bitXor ty tz)) rows x (yAt xs j / 2 * width) (zAt xs j / 2 * width) width after
       → TripletMade xs j rows width after
   unfolding inRow literalValue
@@ -130,7 +145,18 @@ module _ (xs : List ℕ) (j : ℕ) (rows : List ℕ) (width : ℕ) (after : List
       record {
         long = m .long;
         made = λ s h.
-            rw (← ex, m .made (s / wordBits) (omega arith), ey, ez, turned-both (getD rows (yAt xs j / 2 * width + s / wordBits) 0) (getD rows (zAt xs j / 2 * width + s / wordBits) 0) (turned (yAt xs j + 1)) (turned (zAt xs j)) (s % wordBits), turned-other (yAt xs j) (getD rows (yAt xs j / 2 * width + s / wordBits) 0) (s % wordBits) (omega arith), turned-bit (zAt xs j) (getD rows (zAt xs j / 2 * width + s / wordBits) 0) (s % wordBits) (omega arith))
+            rw (
+              ← ex,
+              m .made (s / wordBits) (omega arith),
+              ey,
+              ez,
+              turned-both (getD rows (yAt xs j / 2 * width + s / wordBits) 0)
+                  (getD rows (zAt xs j / 2 * width + s / wordBits) 0) (turned (yAt xs j + 1)) (turned (zAt xs j)) (s % wordBits),
+              turned-other (yAt xs j)
+                  (getD rows (yAt xs j / 2 * width + s / wordBits) 0) (s % wordBits) (omega arith),
+              turned-bit (zAt xs j)
+                  (getD rows (zAt xs j / 2 * width + s / wordBits) 0) (s % wordBits) (omega arith),
+            )
             (same-not _ _ ∙ sym (gate-other (kindAt xs j) _ _ k));
         kept = kept-row x _ ex m;
       }

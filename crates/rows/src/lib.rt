@@ -55,7 +55,8 @@ fn xor_row(rows: &mut [u64], x: usize, y: usize, z: usize, t: u64, width: usize)
 
 // Makes the row of triplet j from those of its operands.
 fn triplet_row(xs: &[u16], j: usize, rows: &mut [u64], width: usize)
-    requires { ⌜ (j < connectiveCeiling) × (3 * j + 2 < length (now xs)) × (yAt (now xs) j / 2 < tripletVariable (suc j)) × (zAt (now xs) j / 2 < tripletVariable (suc j)) × (tripletVariable (suc (suc j)) * width ≤ length (now rows)) ⌝ }
+    requires { ⌜ (j < connectiveCeiling) × (3 * j + 2 < length (now xs)) × (yAt (now xs) j / 2 < tripletVariable (suc j))
+        × (zAt (now xs) j / 2 < tripletVariable (suc j)) × (tripletVariable (suc (suc j)) * width ≤ length (now rows)) ⌝ }
     ensures { λ _. ⌜ TripletMade (now (xs .entry)) j (now (rows .entry)) width (now (rows .exit)) ⌝ }
 {
     let y = xs[3 * j + 1];
@@ -72,7 +73,8 @@ fn triplet_row(xs: &[u16], j: usize, rows: &mut [u64], width: usize)
 
 // Makes the rows of the first `count` triplets.
 pub fn evaluate(xs: &[u16], count: usize, n: usize, rows: &mut [u64], width: usize)
-    requires { ⌜ (n ≤ flagCeiling) × (count ≤ connectiveCeiling) × (3 * count ≤ length (now xs)) × (tripletVariable (suc count) * width ≤ length (now rows)) ⌝ }
+    requires { ⌜ (n ≤ flagCeiling) × (count ≤ connectiveCeiling) × (3 * count ≤ length (now xs))
+        × (tripletVariable (suc count) * width ≤ length (now rows)) ⌝ }
     requires { ⌜ Shape n count (now xs) ⌝ }
     requires { ⌜ FlagRows n width (now rows) ⌝ }
     ensures { λ _. ⌜ Evaluated n width (now (xs .entry)) count (now (rows .entry)) (now (rows .exit)) ⌝ }

@@ -81,7 +81,8 @@ module _ (D : ℕ → Type 0) (n : ℕ) (g : Guard) (proper : Proper n g) where
   module _ (splits : (f : ℕ) → Flags n f → D f) (k : ℕ) (deep : n ≤ k) where
     pub full-covered : ((s : ℕ) → s < 2 ^ n → value n s g ≡ true) → Answer D (triplets 0 g) (literal 0 g) k n Covered
     unfolding flagsAs
-    full-covered all = no-gap-refuted D n g proper splits n 0 0 k (omega arith) deep (λ s e. all s (omega (arith, div-lt-iff-lt-mul {k = 2 ^ n} {x = s} {y = 1} (pow-pos n) .0 (omega arith))))
+    full-covered all = no-gap-refuted D n g proper splits n 0 0 k (omega arith) deep
+        (λ s e. all s (omega (arith, div-lt-iff-lt-mul {k = 2 ^ n} {x = s} {y = 1} (pow-pos n) .0 (omega arith))))
 
     full-confirms : (s : ℕ) → ((t : ℕ) → t < s → value n t g ≡ true) → s < 2 ^ n → (i : ℕ) → i ≤ n
         → Confirms D (triplets 0 g) (literal 0 g) k i (firstOf n s i)

@@ -104,7 +104,8 @@ module _ (D : ℕ → Type 0) (ts : List Triplet) where
           s A r (above-taking R A l (λ c d e. taking-above T A l w c d (t .above c d e)) (taking-holds T A l w)) h
 
   -- so the saturation of T with l added is that of R with l added
-  pub saturated-in-turn : (k : ℕ) (R T U : Rel) (l : ℕ) → SaturationOf D ts k R T → SaturationOf D ts k (taking T l) U → SaturationOf D ts k (taking R l) U
+  pub saturated-in-turn : (k : ℕ) (R T U : Rel) (l : ℕ) → SaturationOf D ts k R T → SaturationOf D ts k (taking T l) U → SaturationOf D ts k
+      (taking R l) U
   saturated-in-turn k R T U l t u =
       record {
         relation = u .relation;

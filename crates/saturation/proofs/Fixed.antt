@@ -88,8 +88,10 @@ module _ (A : Rel) (relation : IsRelation A) where
     root-tied (joined t g k) c f h =
         let d : ℕ = c + connectives g in
         let own : List Triplet = tripletOf t (literal c g) (literal d k) ∷ [] in
-        let right : Each (HoldsStepOn A A) d (triplets d k ++ own) = each-right (HoldsStepOn A A) c d (triplets c g) (triplets d k ++ own) (rw count-triplets refl) h in
-        let last : Each (HoldsStepOn A A) (d + connectives k) own = each-right (HoldsStepOn A A) d (d + connectives k) (triplets d k) own (rw count-triplets refl) right in
+        let right : Each (HoldsStepOn A A) d (triplets d k ++ own) = each-right (HoldsStepOn A A) c d (triplets c g) (triplets d k ++ own)
+        (rw count-triplets refl) h in
+        let last : Each (HoldsStepOn A A) (d + connectives k) own = each-right (HoldsStepOn A A) d (d + connectives k) (triplets d k) own
+        (rw count-triplets refl) right in
         let e : c + (connectives g + connectives k + 1) ≡ d + connectives k + 1 = omega arith in
         rw e
         (sign-ties t (literal c g) (literal d k) (tripletVariable (d + connectives k + 1)) (value n s g) (value n s k)

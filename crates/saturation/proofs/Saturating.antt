@@ -88,7 +88,8 @@ module _ (numbers : List ℕ) (c n k : ℕ) where
   ts = tripletsAt numbers c
 
   -- what is tried in a relation is tried in one with the same equalities
-  pub tried-same : (xs ys : List ℕ) (f : ℕ) → Within (kept xs) (kept ys) → Within (kept ys) (kept xs) → Tried numbers c n k xs f → Tried numbers c n k ys f
+  pub tried-same : (xs ys : List ℕ) (f : ℕ) → Within (kept xs) (kept ys) → Within (kept ys) (kept xs) → Tried numbers c n k xs f → Tried numbers c
+      n k ys f
   tried-same xs ys f w v t =
       ⊎-elim
       (λ (e : Ties (kept xs) f). inl (ties-same f (kept xs) (kept ys) w e))
@@ -117,7 +118,8 @@ module _ (numbers : List ℕ) (c n k : ℕ) where
       }
 
   -- ---- a split on the flag f: offs and ons are the sides, zs what they share
-  pub divided-tied : (xs : List ℕ) (f : ℕ) → Classes (inUse c) xs → NoStepEnlarges ts (kept xs) → tied (kept xs) f ≡ true → Divided numbers c n k f xs xs
+  pub divided-tied : (xs : List ℕ) (f : ℕ) → Classes (inUse c) xs → NoStepEnlarges ts (kept xs) → tied (kept xs) f ≡ true → Divided numbers c n
+      k f xs xs
   divided-tied xs f a r e =
       record {
         nearer = nearer-none xs a r;
@@ -213,11 +215,13 @@ module _ (numbers : List ℕ) (c n k : ℕ) where
     pub ranks : left ≡ rank (inUse c) (entry ys)
     pub quiet : was ≤ left → Stable (Flags n) ts (suc k) (kept ys)
 
-  pub saturating-start : (xs : List ℕ) (left : ℕ) → Classes (inUse c) xs → NoStepEnlarges ts (kept xs) → left ≡ rank (inUse c) (entry xs) → Saturating xs xs left (left + 1)
+  pub saturating-start : (xs : List ℕ) (left : ℕ) → Classes (inUse c) xs → NoStepEnlarges ts (kept xs) → left ≡ rank (inUse c) (entry xs)
+      → Saturating xs xs left (left + 1)
   saturating-start xs left a r e =
       record { nearer = nearer-none xs a r; ranks = e; quiet = λ h. absurd (omega arith) }
 
-  pub saturating-next : (xs ys zs : List ℕ) (left was next : ℕ) → Saturating xs ys left was → Swept numbers c n k ys zs → next ≡ rank (inUse c) (entry zs) → Saturating xs zs next left
+  pub saturating-next : (xs ys zs : List ℕ) (left was next : ℕ) → Saturating xs ys left was → Swept numbers c n k ys zs → next ≡ rank (inUse c)
+      (entry zs) → Saturating xs zs next left
   saturating-next xs ys zs left was next s p e =
       record {
         nearer = nearer-more xs ys zs (s .nearer) (p .nearer);
@@ -231,7 +235,8 @@ module _ (numbers : List ℕ) (c n k : ℕ) where
             (λ f d. tried-same ys zs f on back (p .idle back f d));
       }
 
-  pub saturating-done : (xs ys zs : List ℕ) (left was depth : ℕ) → depth ≡ suc k → was ≤ left → Rested numbers c xs ys → Saturating ys zs left was → SaturatedTo numbers c n depth xs zs
+  pub saturating-done : (xs ys zs : List ℕ) (left was depth : ℕ) → depth ≡ suc k → was ≤ left → Rested numbers c xs ys → Saturating ys zs left
+      was → SaturatedTo numbers c n depth xs zs
   saturating-done xs ys zs left was depth d h r s =
       let all : Nearer numbers c n k xs zs = nearer-more xs ys zs (nearer-rested xs ys r) (s .nearer) in
       record {
@@ -241,5 +246,6 @@ module _ (numbers : List ℕ) (c n k : ℕ) where
       }
 
 -- at depth 0 rest is all
-pub saturated-rested : (numbers : List ℕ) (c n depth : ℕ) (xs ys : List ℕ) → depth ≡ 0 → Rested numbers c xs ys → SaturatedTo numbers c n depth xs ys
+pub saturated-rested : (numbers : List ℕ) (c n depth : ℕ) (xs ys : List ℕ) → depth ≡ 0 → Rested numbers c xs ys → SaturatedTo numbers c n depth
+    xs ys
 saturated-rested numbers c n depth xs ys d r = record { classes = r .classes; least = rw d (r .least) }

@@ -23,7 +23,8 @@ module _ (D : ℕ → Type 0) (ts : List Triplet) where
 
   module _ (k f : ℕ) (S T F : Rel) (on : SaturationOf D ts k (taking S (2 * f)) T) (off : SaturationOf D ts k (taking S (2 * f + 1)) F) where
     -- what both sides of a split on f share is held by every relation above S that is stable one deeper
-    pub split-below : D f → (A : Rel) → IsRelation A → Within S A → Stable D ts (suc k) A → (l m : ℕ) → T l m ≡ true → F l m ≡ true → A l m ≡ true
+    pub split-below : D f → (A : Rel) → IsRelation A → Within S A → Stable D ts (suc k) A → (l m : ℕ) → T l m ≡ true → F l m ≡ true → A
+        l m ≡ true
     split-below d A a w h l m t o =
         h .1 f l m d
         (saturated-more k (taking S (2 * f)) (taking A (2 * f)) l m (taking-more S A (2 * f) w) (on .forced l m t))
@@ -40,7 +41,8 @@ module _ (D : ℕ → Type 0) (ts : List Triplet) where
 
     pub trial-next : (l : ℕ) (U : Rel) → SaturationOf D ts k (taking T l) U → SaturationOf D ts k (taken (negation root ∷ l ∷ ls)) U
     trial-next l U u =
-        let both : SaturationOf D ts k (taking (taken (negation root ∷ ls)) l) U = saturated-in-turn D ts k (taken (negation root ∷ ls)) T U l saturated u in
+        let both : SaturationOf D ts k (taking (taken (negation root ∷ ls)) l) U = saturated-in-turn D ts k (taken (negation root ∷ ls)) T U l saturated u
+        in
         let old : HoldsAll U (negation root ∷ ls) = taken-above U (negation root ∷ ls) (taking-above (taken (negation root ∷ ls)) U l (both .above)) in
         record {
           relation = both .relation;

@@ -72,7 +72,8 @@ flag-tied A relation i (suc (suc b)) h e = absurd (omega arith)
 
 -- what holds the literals of a state ties each flag to its bit
 module _ (n s : ℕ) (A : Rel) (relation : IsRelation A) where
-  pub first-tied : (i : ℕ) → i ≤ n → HoldsAll A (flagsAs i (firstOf n s i)) → (j : ℕ) → 0 < j → j ≤ i → A (2 * j) (literalFor (bit s (n - j))) ≡ true
+  pub first-tied : (i : ℕ) → i ≤ n → HoldsAll A (flagsAs i (firstOf n s i)) → (j : ℕ) → 0 < j → j ≤ i → A (2 * j)
+      (literalFor (bit s (n - j))) ≡ true
   unfolding flagsAs
   first-tied zero h e j p q = absurd (omega arith)
   first-tied (suc i) h e j p q =

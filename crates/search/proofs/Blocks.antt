@@ -44,7 +44,8 @@ offset-bits n base s e a b p h =
     let g : s % 2 ^ n ≡ s - base = ap (λ u. u % 2 ^ n) f ∙ low q n (omega arith) in
     rw (← g) (bit-low s n p h)
 
-row-right : (n width base c root s : ℕ) (xs rows after : List ℕ) → Triplets n xs c root → 2 ^ n ≤ wordBits * width → base % 2 ^ n ≡ 0 → base ≤ s → s < base + 2 ^ n
+row-right : (n width base c root s : ℕ) (xs rows after : List ℕ) → Triplets n xs c root → 2 ^ n ≤ wordBits * width → base % 2 ^ n ≡ 0 → base
+    ≤ s → s < base + 2 ^ n
     → Evaluated n width xs c rows after → literalValue (inRow after width (s - base)) root ≡ rootValue n xs c root s
 unfolding rootValue
 row-right n width base c root s xs rows after t w al a b e =
@@ -53,12 +54,14 @@ row-right n width base c root s xs rows after t w al a b e =
     (valued n s xs (t .flags) c (t .shape)) c (omega arith) root (t .named)
 
 -- what the row of the root says is what the triplets say
-pub block-walked : (n width base start c root from : ℕ) (xs rows after out out′ : List ℕ) (r : Found) → Triplets n xs c root → 2 ^ n ≤ wordBits * width → base % 2 ^ n ≡ 0
+pub block-walked : (n width base start c root from : ℕ) (xs rows after out out′ : List ℕ) (r : Found) → Triplets n xs c root → 2 ^ n ≤ wordBits *
+    width → base % 2 ^ n ≡ 0
     → Evaluated n width xs c rows after
     → Writes out from (falseFrom (since start (λ s. literalValue (inRow after width (s - base)) root)) base (2 ^ n)) r out′
     → Walked (rootValue n xs c root) start base n n width from out r out′ after
 block-walked n width base start c root from xs rows after out out′ r t w al e u =
     record {
-      writes = rw (since-same start (λ s. literalValue (inRow after width (s - base)) root) (rootValue n xs c root) base (2 ^ n) (λ s a b. row-right n width base c root s xs rows after t w al a b e)) at u;
+      writes = rw (since-same start (λ s. literalValue (inRow after width (s - base)) root) (rootValue n xs c root) base (2 ^ n)
+          (λ s a b. row-right n width base c root s xs rows after t w al a b e)) at u;
       right = flags-kept n width c xs rows after e;
     }

@@ -30,7 +30,8 @@ use Rattle.search.proofs.Blocks.{multiple}
 use Rattle.gaps.proofs.Written.{writes-none, writes-then, writes-stop}
 
 -- a stretch that lies before the start
-pub walked-before : (v : ℕ → Bool) (start base n low width from : ℕ) (out rows : List ℕ) → base + (2 ^ n - 1) < start → from ≤ length out → FlagRows low width rows
+pub walked-before : (v : ℕ → Bool) (start base n low width from : ℕ) (out rows : List ℕ) → base + (2 ^ n - 1) < start → from ≤ length out
+    → FlagRows low width rows
     → Walked v start base n low width from out (Done from) out rows
 walked-before v start base n low width from out rows h b f =
     record { writes = rw (since-none start v base (2 ^ n) (omega (arith, pow-pos n))) (writes-none out from b); right = f }
@@ -50,11 +51,13 @@ module _ (n : ℕ) (b : Bool) (xs : List ℕ) (count root : ℕ) (ys : List ℕ)
 
   module _ (start base low width from : ℕ) (out rows : List ℕ) (half : (s : ℕ) → base ≤ s → s < base + 2 ^ n → bit s n ≡ b) where
     -- what is left is true: there is nothing to find
-    pub walked-true : r ≡ 0 → from ≤ length out → FlagRows low width rows → Walked (rootValue (suc n) xs count root) start base n low width from out (Done from) out rows
+    pub walked-true : r ≡ 0 → from ≤ length out → FlagRows low width rows → Walked (rootValue (suc n) xs count root) start base n low width from out
+        (Done from) out rows
     walked-true e h g =
         record {
           writes =
-              rw (false-none (since start (rootValue (suc n) xs count root)) base (2 ^ n) (λ s p q. always-since start (rootValue (suc n) xs count root) s (sym (fixed-value s (half s p q)) ∙ true-value s e)))
+              rw (false-none (since start (rootValue (suc n) xs count root)) base (2 ^ n)
+              (λ s p q. always-since start (rootValue (suc n) xs count root) s (sym (fixed-value s (half s p q)) ∙ true-value s e)))
               (writes-none out from h);
           right = g;
         }
@@ -64,7 +67,8 @@ module _ (n : ℕ) (b : Bool) (xs : List ℕ) (count root : ℕ) (ys : List ℕ)
         → Walked (rootValue (suc n) xs count root) start base n low width from out x out′ rows
     walked-left out′ x w =
         record {
-          writes = rw (since-same start (rootValue n ys c r) (rootValue (suc n) xs count root) base (2 ^ n) (λ s p q. fixed-value s (half s p q))) at (w .writes);
+          writes = rw (since-same start (rootValue n ys c r) (rootValue (suc n) xs count root) base (2 ^ n) (λ s p q. fixed-value s (half s p q))) at
+              (w .writes);
           right = w .right;
         }
 
@@ -146,7 +150,8 @@ stretch-upper m n width base h e f s =
 pub half-lower : (m n width base : ℕ) → suc m ≡ n → Stretch n width base → (s : ℕ) → base ≤ s → s < base + 2 ^ m → bit s m ≡ false
 half-lower m n width base e st = lower-bit m base (rw e (st .aligned))
 
-pub half-upper : (m n width base h : ℕ) → suc m ≡ n → h ≡ 2 ^ m → Stretch n width base → (s : ℕ) → base + h ≤ s → s < base + h + 2 ^ m → bit s m ≡ true
+pub half-upper : (m n width base h : ℕ) → suc m ≡ n → h ≡ 2 ^ m → Stretch n width base → (s : ℕ) → base + h ≤ s → s < base + h + 2 ^ m
+    → bit s m ≡ true
 half-upper m n width base h e f st s a b = upper-bit m base (rw e (st .aligned)) s (omega arith) (omega arith)
 
 -- 1 shifted left
@@ -156,7 +161,8 @@ shifted m h = shl-exact {a = 1} 1 m wordBits (omega arith) (omega arith) ∙ one
     one-times : (a : ℕ) → 1 * a ≡ a
     one-times a = omega arith
 
-pub rows-again : (low width : ℕ) (rows rows′ : List ℕ) → Rows low width rows → length rows′ ≡ length rows → FlagRows low width rows′ → Rows low width rows′
+pub rows-again : (low width : ℕ) (rows rows′ : List ℕ) → Rows low width rows → length rows′ ≡ length rows → FlagRows low width rows′
+    → Rows low width rows′
 rows-again low width rows rows′ r e f = record { enough = r .enough; long = rw e (r .long); right = f }
 
 -- what counts from the start on, in all states, is what is false from the start on
@@ -167,7 +173,8 @@ from-start v start n h =
     ap (falseFrom (since start v) 0) e ∙ false-parts (since start v) 0 start (n - start)
     ∙ (rw (since-none start v 0 start (omega arith), z) (since-whole start v start (n - start) (omega arith)))
 
-pub searched : (v : ℕ → Bool) (start n low width : ℕ) (out out′ rows : List ℕ) (r : Found) → start ≤ 2 ^ n → Walked v start 0 n low width 0 out r out′ rows
+pub searched : (v : ℕ → Bool) (start n low width : ℕ) (out out′ rows : List ℕ) (r : Found) → start ≤ 2 ^ n → Walked v start 0 n low width 0
+    out r out′ rows
     → Writes out 0 (falseFrom v start (2 ^ n - start)) r out′
 searched v start n low width out out′ rows r h w = rw (from-start v start (2 ^ n) h) at (w .writes)
 
@@ -177,7 +184,8 @@ stretch-all n width h b =
     record { aligned = zero-mod (2 ^ n); small = omega (arith, pow-mono {i = n} {j = flagCeiling} h) }
 
 -- rows that hold the states of so many flags
-pub rows-all : (low most width : ℕ) (rows after : List ℕ) → low ≤ most → 2 ^ most ≤ wordBits * width → tripletVariable (suc connectiveCeiling) * width ≤ length rows
+pub rows-all : (low most width : ℕ) (rows after : List ℕ) → low ≤ most → 2 ^ most ≤ wordBits * width → tripletVariable (suc connectiveCeiling) *
+    width ≤ length rows
     → FlagsMade low width rows after → Rows low width after
 rows-all low most width rows after h b l f =
     record { enough = omega (arith, pow-mono {i = low} {j = most} h); long = rw (f .long) l; right = f .right }

@@ -27,7 +27,8 @@ pub fn block(
     out: &mut [u32],
 ) -> Found
     requires { ⌜ Triplets n (now xs) count root × Rows n width (now rows) × Stretch n width base × (from ≤ length (now out)) ⌝ }
-    ensures { λ r. ⌜ Walked (rootValue n (now (xs .entry)) count root) start base n n width from (now (out .entry)) r (now (out .exit)) (now (rows .exit)) ⌝ }
+    ensures { λ r. ⌜ Walked (rootValue n (now (xs .entry)) count root) start base n n width from (now (out .entry)) r (now (out .exit)) (now (rows .exit))
+        ⌝ }
 {
     evaluate(xs, count, n, rows, width);
     write_row(rows, root, n, width, base, start, from, out)
@@ -50,8 +51,10 @@ fn side(
     out: &mut [u32],
 ) -> Found
     requires { ⌜ Triplets (suc n) (now xs) count root × Rows low width (now rows) × Stretch n width base × (from ≤ length (now out)) ⌝ }
-    requires { ⌜ (low ≤ n) × (2 * tripletVariable (suc connectiveCeiling) ≤ length (now to)) × ((s : ℕ) → base ≤ s → s < base + 2 ^ n → bit s n ≡ b) ⌝ }
-    ensures { λ r. ⌜ Walked (rootValue (suc n) (now (xs .entry)) count root) start base n low width from (now (out .entry)) r (now (out .exit)) (now (rows .exit)) ⌝ }
+    requires { ⌜ (low ≤ n) × (2 * tripletVariable (suc connectiveCeiling) ≤ length (now to))
+        × ((s : ℕ) → base ≤ s → s < base + 2 ^ n → bit s n ≡ b) ⌝ }
+    ensures { λ r. ⌜ Walked (rootValue (suc n) (now (xs .entry)) count root) start base n low width from (now (out .entry)) r (now (out .exit))
+        (now (rows .exit)) ⌝ }
 {
     let last = base + ((1 << n) - 1);
     if last < start {
@@ -95,7 +98,8 @@ pub fn walk(
 ) -> Found
     requires { ⌜ Triplets n (now xs) count root × Rows low width (now rows) × Stretch n width base × (from ≤ length (now out)) ⌝ }
     requires { ⌜ (low ≤ n) × (2 * tripletVariable (suc connectiveCeiling) ≤ length (now to)) ⌝ }
-    ensures { λ r. ⌜ Walked (rootValue n (now (xs .entry)) count root) start base n low width from (now (out .entry)) r (now (out .exit)) (now (rows .exit)) ⌝ }
+    ensures { λ r. ⌜ Walked (rootValue n (now (xs .entry)) count root) start base n low width from (now (out .entry)) r (now (out .exit))
+        (now (rows .exit)) ⌝ }
 {
     if n == low {
         return block(xs, count, root, n, rows, width, base, start, from, out);

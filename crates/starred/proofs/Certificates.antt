@@ -87,7 +87,8 @@ Sound A none = A 0 1 ≡ true
 Sound A (some bs) = HoldsEach A bs
 
 module _ (A : Rel) (relation : IsRelation A) where
-  onward-sound : (o : Sketch) (f : List Binding → Sketch) → Sound A o → ((bs : List Binding) → HoldsEach A bs → Sound A (f bs)) → Sound A (onward o f)
+  onward-sound : (o : Sketch) (f : List Binding → Sketch) → Sound A o → ((bs : List Binding) → HoldsEach A bs → Sound A (f bs)) → Sound A
+      (onward o f)
   onward-sound none f h g = h
   onward-sound (some bs) f h g = g bs h
 

@@ -39,7 +39,8 @@ abbrev pub both-or-not : Guard
 both-or-not = joined or (joined and (flag 1) (flag 2)) (joined or (negated (flag 1)) (negated (flag 2)))
 
 pub both-or-not-covered : Checked 2 both-or-not 0 Covered
-unfolding refutes begun rested passed stepped named joins signed replaced lead sketched entry follows pattern gate table triplets literal tripletOf literalOf connectives negation
+unfolding refutes begun rested passed stepped named joins signed replaced lead sketched entry follows pattern gate table triplets literal tripletOf literalOf
+    connectives negation
 both-or-not-covered = refuted-by 2 both-or-not 3 [] 0 [] (omega arith) tt refl
 
 -- `(p>q)=(!q>!p)`
@@ -47,12 +48,14 @@ abbrev pub contraposed : Guard
 contraposed = joined same (joined implies (flag 1) (flag 2)) (joined implies (negated (flag 2)) (negated (flag 1)))
 
 pub contraposed-covered : Checked 2 contraposed 1 Covered
-unfolding refutes begun rested passed stepped named joins signed replaced lead sketched entry follows pattern gate table triplets literal tripletOf literalOf connectives negation
+unfolding refutes begun rested passed stepped named joins signed replaced lead sketched entry follows pattern gate table triplets literal tripletOf literalOf
+    connectives negation
 contraposed-covered = refuted-by 2 contraposed 2 (1 ∷ []) 1 [] (omega arith) ((omega arith, omega arith), tt) refl
 
 -- at depth 0 the root leaves both flags open, each is found to be 1, and that is contradictory
 pub contraposed-undecided : Checked 2 contraposed 0 Undecided
-unfolding refutes begun rested passed stepped named joins signed replaced lead sketched entry follows pattern gate table triplets literal tripletOf literalOf connectives negation unmoved holding flagsAs
+unfolding refutes begun rested passed stepped named joins signed replaced lead sketched entry follows pattern gate table triplets literal tripletOf literalOf
+    connectives negation unmoved holding flagsAs
 contraposed-undecided = (
   not-refuted-by 2 contraposed (bound (tripletVariable 3) 1 ∷ bound (tripletVariable 2) (2 * tripletVariable 1 + 1) ∷ []) [] refl refl,
   (
@@ -73,7 +76,13 @@ unless-a-proper : Proper 3 unless-a
 unless-a-proper =
     record {
       few = omega arith;
-      within = ((omega arith, omega arith), (((omega arith, omega arith), (omega arith, omega arith)), ((omega arith, omega arith), (omega arith, omega arith))));
+      within = (
+        (omega arith, omega arith),
+        (
+          ((omega arith, omega arith), (omega arith, omega arith)),
+          ((omega arith, omega arith), (omega arith, omega arith)),
+        ),
+      );
     }
 
 gap-4 : value 3 4 unless-a ≡ false
@@ -82,14 +91,23 @@ gap-4 = refl
 
 -- at depth 0 the flag a as 0 is not refuted, and then both others are found to be 1
 pub unless-a-undecided : Checked 3 unless-a 0 Undecided
-unfolding refutes begun rested passed stepped named joins signed replaced lead sketched entry follows pattern gate table triplets literal tripletOf literalOf connectives negation unmoved holding flagsAs
+unfolding refutes begun rested passed stepped named joins signed replaced lead sketched entry follows pattern gate table triplets literal tripletOf literalOf
+    connectives negation unmoved holding flagsAs
 unless-a-undecided = (
   not-refuted (Flags 3) 3 unless-a unless-a-proper 0 4 [] gap-4 tt,
   (
     3,
     (
       (
-        (refl, (λ o. absurd (omega arith), λ r. absurd (not-refuted-by 3 unless-a (bound 1 1 ∷ bound (tripletVariable 4) 0 ∷ bound (tripletVariable 3) 1 ∷ bound (tripletVariable 2) (2 * tripletVariable 1 + 1) ∷ []) (flagAs 1 0 ∷ []) refl refl r))),
+        (
+          refl,
+          (
+            λ o. absurd (omega arith),
+            λ r. absurd (not-refuted-by 3 unless-a
+                (bound 1 1 ∷ bound (tripletVariable 4) 0 ∷ bound (tripletVariable 3) 1 ∷ bound (tripletVariable 2) (2 * tripletVariable 1 + 1) ∷ [])
+                (flagAs 1 0 ∷ []) refl refl r),
+          ),
+        ),
         (λ o. refuted-by 3 unless-a 3 [] 0 (flagAs 2 0 ∷ flagAs 1 0 ∷ []) (omega arith) tt refl, λ r. refl),
       ),
       (λ o. refuted-by 3 unless-a 3 [] 0 (flagAs 3 0 ∷ flagAs 2 1 ∷ flagAs 1 0 ∷ []) (omega arith) tt refl, λ r. refl),
@@ -100,7 +118,8 @@ unless-a-undecided = (
 
 -- at depth 1 a split on p refutes a as 0
 pub unless-a-gap : Checked 3 unless-a 1 (Gap 4)
-unfolding refutes begun rested passed stepped named joins signed replaced lead sketched entry follows pattern gate table triplets literal tripletOf literalOf connectives negation flagsAs
+unfolding refutes begun rested passed stepped named joins signed replaced lead sketched entry follows pattern gate table triplets literal tripletOf literalOf
+    connectives negation flagsAs
 unless-a-gap =
     confirmed (Flags 3) 3 unless-a unless-a-proper 1 4 gap-4 (
       (

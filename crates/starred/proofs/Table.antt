@@ -11,7 +11,8 @@ use borrow.Author.Tests.{le-leb, lt-leb}
 use Rattle.notation.specs.Tokens.{same, implies, and, among, codeByte, codeRun, coded, hashed, marked, tokenOf, further, tokensFrom, tokens}
 use Rattle.notation.specs.Walk.{Flag, sameCode, known, seen, within, walk}
 use Rattle.notation.specs.Guard.{Guard, flag, truth, joined, connectives}
-use Rattle.notation.specs.Grammar.{follow, number, sameSign, isSign, signNext, past, toTheLeft, toTheRight, leftLevel, rightLevel, andOf, orOf, impliesOf, sameOf, closed, operandOf, inBrackets, treeOf, tree}
+use Rattle.notation.specs.Grammar.{follow, number, sameSign, isSign, signNext, past, toTheLeft, toTheRight, leftLevel, rightLevel, andOf, orOf, impliesOf}
+use Rattle.notation.specs.Grammar.{sameOf, closed, operandOf, inBrackets, treeOf, tree}
 use Rattle.notation.specs.Triplets.{tripletVariable, tripletOf, literalOf, literal, triplets}
 use Rattle.notation.specs.Reading.{guard, judged, reading}
 use Rattle.truth.specs.Connectives.{table}
@@ -56,7 +57,8 @@ record Texts : Type 0 where
   chain : reading (bytes "A>B>C") ≡ guard chain-tree (coded-at 0 65 ∷ coded-at 2 66 ∷ coded-at 4 67 ∷ [])
 
 texts : Texts
-unfolding bytes among codeByte codeRun coded hashed marked tokenOf further tokensFrom tokens sameCode known seen within walk connectives follow number sameSign isSign signNext past toTheLeft toTheRight leftLevel rightLevel andOf orOf impliesOf sameOf closed operandOf inBrackets treeOf tree judged reading
+unfolding bytes among codeByte codeRun coded hashed marked tokenOf further tokensFrom tokens sameCode known seen within walk connectives follow number
+    sameSign isSign signNext past toTheLeft toTheRight leftLevel rightLevel andOf orOf impliesOf sameOf closed operandOf inBrackets treeOf tree judged reading
 texts =
     record {
       equal = refl;

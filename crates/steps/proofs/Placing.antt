@@ -122,12 +122,26 @@ module _ (f : ℕ → ℕ) (top : f 0 ≡ 0) (x y z : ℕ) where
   y-at : earliest (λ (t : Side). relation f y (literalAt x y z t)) yNames ≡ yPlace (lead f x) (lead f y)
   unfolding yPlace
   y-at =
-      rw (equal-at y 1 1 at-false, equal-at y 0 0 at-true, equal-at y x (lead f x) refl, equal-at y (negation x) (negation (lead f x)) (lead-negation f x), leads-same f y y refl)
+      rw (
+        equal-at y 1 1 at-false,
+        equal-at y 0 0 at-true,
+        equal-at y x (lead f x) refl,
+        equal-at y (negation x) (negation (lead f x)) (lead-negation f x),
+        leads-same f y y refl,
+      )
 
   z-at : earliest (λ (t : Side). relation f z (literalAt x y z t)) zNames ≡ zPlace (lead f x) (lead f y) (lead f z)
   unfolding zPlace
   z-at =
-      rw (equal-at z 1 1 at-false, equal-at z 0 0 at-true, equal-at z x (lead f x) refl, equal-at z (negation x) (negation (lead f x)) (lead-negation f x), equal-at z y (lead f y) refl, equal-at z (negation y) (negation (lead f y)) (lead-negation f y), leads-same f z z refl)
+      rw (
+        equal-at z 1 1 at-false,
+        equal-at z 0 0 at-true,
+        equal-at z x (lead f x) refl,
+        equal-at z (negation x) (negation (lead f x)) (lead-negation f x),
+        equal-at z y (lead f y) refl,
+        equal-at z (negation y) (negation (lead f y)) (lead-negation f y),
+        leads-same f z z refl,
+      )
 
   -- by the leaders the pattern is that of the relation
   pub pattern-leads : (p : ℕ) → Patterned (lead f x) (lead f y) (lead f z) p → p ≡ patternOf (relation f) x y z
@@ -135,7 +149,8 @@ module _ (f : ℕ → ℕ) (top : f 0 ≡ 0) (x y z : ℕ) where
   pattern-leads p h = h .names ∙ sym (ap₂ _+_ (ap₂ (λ (i j : ℕ). 35 * i + 7 * j) x-at y-at) z-at)
 
 -- where no two of true, x, y and z lead to one variable, each has its own name
-pub own-names : (a b c : ℕ) → (a / 2 ≡ 0 → ⊥) → (b / 2 ≡ 0 → ⊥) → (c / 2 ≡ 0 → ⊥) → (b / 2 ≡ a / 2 → ⊥) → (c / 2 ≡ a / 2 → ⊥) → (c / 2 ≡ b / 2 → ⊥) → Patterned a b c 104
+pub own-names : (a b c : ℕ) → (a / 2 ≡ 0 → ⊥) → (b / 2 ≡ 0 → ⊥) → (c / 2 ≡ 0 → ⊥) → (b / 2 ≡ a / 2 → ⊥)
+    → (c / 2 ≡ a / 2 → ⊥) → (c / 2 ≡ b / 2 → ⊥) → Patterned a b c 104
 own-names a b c p q r s t u =
     record { names = sym (ap₂ _+_ (ap₂ (λ (i j : ℕ). 35 * i + 7 * j) (x-own a p) (y-own a b q s)) (z-own a b c r t u)); below = omega arith }
 

@@ -68,7 +68,8 @@ rest-same ts R S w v h =
     h
 
 -- ---- which variables are in use
-pub usable-at : (numbers : List ℕ) (c j x : ℕ) → Readable numbers c → j < c → x ≡ 2 * tripletVariable (j + 1) → Usable (inUse c) (kindAt numbers j) x (yAt numbers j) (zAt numbers j)
+pub usable-at : (numbers : List ℕ) (c j x : ℕ) → Readable numbers c → j < c → x ≡ 2 * tripletVariable (j + 1) → Usable (inUse c)
+    (kindAt numbers j) x (yAt numbers j) (zAt numbers j)
 usable-at numbers c j x r h e =
     let n : ℕ = r .0 in
     let t : Triplets n numbers c (r .1) = r .2 in
@@ -136,7 +137,8 @@ passing-done numbers c j xs ys h p =
     }
 
 -- a contradictory relation ends the pass
-pub passing-broken : (numbers : List ℕ) (c j : ℕ) (xs ys : List ℕ) → contradictory (entry ys) ≡ true → Passing numbers c j xs ys → Passed numbers c xs ys
+pub passing-broken : (numbers : List ℕ) (c j : ℕ) (xs ys : List ℕ) → contradictory (entry ys) ≡ true → Passing numbers c j xs ys → Passed
+    numbers c xs ys
 passing-broken numbers c j xs ys e p =
     record {
       classes = p .classes;
@@ -152,7 +154,8 @@ pub record Settling (numbers : List ℕ) (c : ℕ) (xs ys : List ℕ) (left was 
   pub ranks : left ≡ rank (inUse c) (entry ys)
   pub quiet : was ≤ left → NoStepEnlarges (tripletsAt numbers c) (kept ys)
 
-pub settling-start : (numbers : List ℕ) (c : ℕ) (xs : List ℕ) (left : ℕ) → Classes (inUse c) xs → left ≡ rank (inUse c) (entry xs) → Settling numbers c xs xs left (left + 1)
+pub settling-start : (numbers : List ℕ) (c : ℕ) (xs : List ℕ) (left : ℕ) → Classes (inUse c) xs → left ≡ rank (inUse c) (entry xs) → Settling
+    numbers c xs xs left (left + 1)
 settling-start numbers c xs left k e =
     record {
       classes = k;
@@ -161,7 +164,8 @@ settling-start numbers c xs left k e =
       quiet = λ h. absurd (omega arith);
     }
 
-pub settling-next : (numbers : List ℕ) (c : ℕ) (xs ys zs : List ℕ) (left was next : ℕ) → Settling numbers c xs ys left was → Passed numbers c ys zs → next ≡ rank (inUse c) (entry zs) → Settling numbers c xs zs next left
+pub settling-next : (numbers : List ℕ) (c : ℕ) (xs ys zs : List ℕ) (left was next : ℕ) → Settling numbers c xs ys left was → Passed numbers c ys
+    zs → next ≡ rank (inUse c) (entry zs) → Settling numbers c xs zs next left
 settling-next numbers c xs ys zs left was next s p e =
     record {
       classes = p .classes;
@@ -174,7 +178,8 @@ settling-next numbers c xs ys zs left was next s p e =
           rest-same (tripletsAt numbers c) (kept ys) (kept zs) (p .grown .above) back (p .idle back);
     }
 
-pub settling-done : (numbers : List ℕ) (c : ℕ) (xs ys : List ℕ) (left was : ℕ) → was ≤ left → Settling numbers c xs ys left was → Rested numbers c xs ys
+pub settling-done : (numbers : List ℕ) (c : ℕ) (xs ys : List ℕ) (left was : ℕ) → was ≤ left → Settling numbers c xs ys left was → Rested
+    numbers c xs ys
 settling-done numbers c xs ys left was h s =
     record {
       classes = s .classes;

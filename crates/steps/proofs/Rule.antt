@@ -15,7 +15,8 @@ use Rattle.steps.proofs.Entries.{passes, at}
 unfoldable pub right : ℕ → ℕ → Bool
 right k e = eqb e (entry (k / 105) (k % 105))
 
-pub table : (es : List ℕ) → passes right 0 es ≡ true → length es ≡ 210 → (kind p : ℕ) → kind ≤ 1 → p < 105 → getD es (105 * kind + p) 0 ≡ entry kind p
+pub table : (es : List ℕ) → passes right 0 es ≡ true → length es ≡ 210 → (kind p : ℕ) → kind ≤ 1 → p < 105 → getD es (105 * kind + p) 0
+    ≡ entry kind p
 unfolding right
 table es right-everywhere long kind p k h =
     eqb-true (getD es (105 * kind + p) 0) (entry ((105 * kind + p) / 105) ((105 * kind + p) % 105))

@@ -11,7 +11,8 @@ use Rattle.steps.specs.Table.{xNamed, yNamed, zNamed, pattern, patternOf
 use Rattle.ground.proofs.Cases.{either}
 use Rattle.steps.proofs.Sides.{Closed, held, held-closed}
 use Rattle.steps.proofs.Patterns.{pattern-below}
-use Rattle.steps.proofs.Strongest.{follows-gives, gives-follows, follows-closed, follows-consistent, x-holds, y-holds, z-holds, all-held, named-fits, obeys-fits, fits-obeys, entry-contradicts, entry-names, entry-consistent}
+use Rattle.steps.proofs.Strongest.{follows-gives, gives-follows, follows-closed, follows-consistent, x-holds, y-holds, z-holds, all-held}
+use Rattle.steps.proofs.Strongest.{named-fits, obeys-fits, fits-obeys, entry-contradicts, entry-names, entry-consistent}
 
 -- where true equals false, everything is held
 pub all-equal : (A : Rel) → IsRelation A → A 0 1 ≡ true → (l m : ℕ) → A l m ≡ true
@@ -86,7 +87,8 @@ module _ (kind x y z p : ℕ) (A : Rel) (relation : IsRelation A) (named : Names
   pub follows-held : (s t : Side) → follows kind p s t ≡ true → A (literalAt x y z s) (literalAt x y z t) ≡ true
   follows-held s t e =
       rests s t
-      (λ v sat obeys. follows-gives kind p s t e v sat (named-fits p v (obeys own-x (xNamed p) (named .of-x)) (obeys own-y (yNamed p) (named .of-y)) (obeys own-z (zNamed p) (named .of-z))))
+      (λ v sat obeys. follows-gives kind p s t e v sat (named-fits p v (obeys own-x (xNamed p) (named .of-x)) (obeys own-y (yNamed p) (named .of-y))
+      (obeys own-z (zNamed p) (named .of-z))))
 
   pub entry-contradicted : entry kind p ≡ contradictory → A 0 1 ≡ true
   entry-contradicted e = relation .symmetric 1 0 (follows-held never always (entry-contradicts kind p e))

@@ -118,7 +118,8 @@ fitting-alike : (E : Side → Side → Bool) → Closed E → Consistent E → (
     → (s t : Side) → E s t ≡ true → truthAt v s ≡ truthAt v t
 fitting-alike E e c v f s t h =
     let p : ℕ = pattern E in
-    let rest : alike v own-y (yNamed p) && alike v own-z (zNamed p) ≡ true = and-right (alike v own-x (xNamed p)) (alike v own-y (yNamed p) && alike v own-z (zNamed p)) f in
+    let rest : alike v own-y (yNamed p) && alike v own-z (zNamed p) ≡ true = and-right (alike v own-x (xNamed p))
+    (alike v own-y (yNamed p) && alike v own-z (zNamed p)) f in
     beq-eq (truthAt v s) (truthAt v t)
     (all-held E (alike v) e c (alike-closed v)
     (and-left (alike v own-x (xNamed p)) (alike v own-y (yNamed p) && alike v own-z (zNamed p)) f)
@@ -127,7 +128,8 @@ fitting-alike E e c v f s t h =
     s t h)
 
 -- a truth value fits the pattern that names it so
-pub named-fits : (p : ℕ) (v : Values) → truthAt v own-x ≡ truthAt v (xNamed p) → truthAt v own-y ≡ truthAt v (yNamed p) → truthAt v own-z ≡ truthAt v (zNamed p)
+pub named-fits : (p : ℕ) (v : Values) → truthAt v own-x ≡ truthAt v (xNamed p) → truthAt v own-y ≡ truthAt v (yNamed p) → truthAt v own-z
+    ≡ truthAt v (zNamed p)
     → fits p v ≡ true
 named-fits p v a b c =
     and-both (alike v own-x (xNamed p)) (alike v own-y (yNamed p) && alike v own-z (zNamed p))

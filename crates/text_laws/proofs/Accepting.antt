@@ -30,7 +30,8 @@ sign-is s (at p opening ts) e = absurd (false≢true e)
 sign-is s (at p closing ts) e = absurd (false≢true e)
 
 -- a sign that the walk passes is within the ceiling
-sign-kept : (d : ℕ) (u : List Flag) (m p : ℕ) (t : Sign) (ts : Tokens) (w : List Flag) (j : ℕ) → walk after d u m (at p (sign t) ts) ≡ accepted w j →
+sign-kept : (d : ℕ) (u : List Flag) (m p : ℕ) (t : Sign) (ts : Tokens) (w : List Flag) (j : ℕ) → walk after d u m (at p (sign t) ts) ≡ accepted w j
+    →
     m < connectiveCeiling
 unfolding walk
 sign-kept d u m p t ts w j e = within-kept (suc m) connectiveCeiling 8 p (walk operand d u (suc m) ts) w j e
@@ -58,7 +59,8 @@ pub record Closing (us : Tokens) : Type 0 where
   pub rest : Tokens
   pub is : us ≡ at place closing rest
 
-pub closing-is : (d : ℕ) (u : List Flag) (m : ℕ) (us : Tokens) (w : List Flag) (j : ℕ) → NoSign us → walk after (suc d) u m us ≡ accepted w j → Closing us
+pub closing-is : (d : ℕ) (u : List Flag) (m : ℕ) (us : Tokens) (w : List Flag) (j : ℕ) → NoSign us → walk after (suc d) u m us ≡ accepted w j
+    → Closing us
 unfolding walk
 closing-is d u m (end p) w j n e = absurd (not-accepted 5 p w j e)
 closing-is d u m (at p stray ts) w j n e = absurd (not-accepted 3 p w j e)

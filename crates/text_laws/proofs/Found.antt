@@ -180,7 +180,8 @@ pub record Read (text : List ℕ) (g : Guard) (u : List Flag) : Type 0 where
   pub parsed : whole [] (tokens text) ≡ found g u (end (length text))
   pub passes : Passes [] (tokens text) (leaves g) u (end (length text))
 
-judged-read : (text : List ℕ) → length text ≤ textCeiling → (o : Outcome) → o ≡ walk operand 0 [] 0 (tokens text) → (g : Guard) (u : List Flag) →
+judged-read : (text : List ℕ) → length text ≤ textCeiling → (o : Outcome) → o ≡ walk operand 0 [] 0 (tokens text) → (g : Guard) (u : List Flag)
+    →
     judged o (tree (tokens text)) ≡ guard g u → Read text g u
 unfolding judged tree treeOf
 judged-read text l (refused k p) q g u e = let z : _≡_ {A = ℕ} 0 1 = cc in absurd (omega arith)

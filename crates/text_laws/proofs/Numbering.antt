@@ -57,7 +57,8 @@ unfolding metIn met leaves
 met-leaves w (flag i) = refl
 met-leaves w (truth b) = refl
 met-leaves w (negated g) = met-leaves w g
-met-leaves w (joined s g h) = met-leaves (met w g) h ∙ ap (λ (v : List ℕ). metIn v (leaves h)) (met-leaves w g) ∙ sym (met-append w (leaves g) (leaves h))
+met-leaves w (joined s g h) = met-leaves (met w g) h ∙ ap (λ (v : List ℕ). metIn v (leaves h)) (met-leaves w g) ∙ sym
+    (met-append w (leaves g) (leaves h))
 
 among-append : (i : ℕ) (w v : List ℕ) → among i (w ++ v) ≡ choose (among i w) true (among i v)
 unfolding among

@@ -9,7 +9,8 @@ use mathlib.Core.List.{List, [], _∷_}
 use lib.ListN.{length, take, drop, length-take}
 use lib.Dec.{leb, eqb}
 use Rattle.notation.specs.Ceilings.{codeCeiling}
-use Rattle.notation.specs.Tokens.{Code, Token, Tokens, same, implies, or, and, stray, long, code, hash, bang, sign, opening, closing, end, at, codeByte, codeRun, coded, hashed, marked, tokenOf, further, tokensFrom, tokens}
+use Rattle.notation.specs.Tokens.{Code, Token, Tokens, same, implies, or, and, stray, long, code, hash, bang, sign, opening, closing, end, at, codeByte}
+use Rattle.notation.specs.Tokens.{codeRun, coded, hashed, marked, tokenOf, further, tokensFrom, tokens}
 use Rattle.ground.specs.Choice.{choose}
 use Rattle.notation.specs.Walk.{Flag, known, seen}
 use Rattle.notation.specs.Grammar.{number}
@@ -55,7 +56,8 @@ code-spelt b bs c e =
     let f : code c ≡ choose (leb (length (b ∷ codeRun bs)) codeCeiling) (code (b ∷ codeRun bs)) long = rw h at e in
     ⊎-elim
     (λ (l : leb (length (b ∷ codeRun bs)) codeCeiling ≡ true). let g : code c ≡ code (b ∷ codeRun bs) = rw l at f in cc)
-    (λ (l : leb (length (b ∷ codeRun bs)) codeCeiling ≡ false). let g : code c ≡ long = rw l at f in let z : _≡_ {A = ℕ} 0 1 = cc in absurd (omega arith))
+    (λ (l : leb (length (b ∷ codeRun bs)) codeCeiling ≡ false). let g : code c ≡ long = rw l at f in let z : _≡_ {A = ℕ} 0 1 = cc in absurd
+    (omega arith))
     (either (leb (length (b ∷ codeRun bs)) codeCeiling)))
     (λ (h : codeByte b ≡ false).
     let f : code c ≡ choose (eqb b 35) (hashed bs) (marked b) = rw h at e in
@@ -149,7 +151,8 @@ text-ascending text = ascending-from 0 0 text
 abbrev pub First : Flag → Tokens → Type 0
 First f ts = Stands (f .place) (f .name) ts × ((p : ℕ) → Stands p (f .name) ts → f .place ≤ p)
 
-first-here : (p : ℕ) (c : Code) (ts : Tokens) → ((q : ℕ) (d : Code) → Stands q d ts → p ≤ q) → First (record { place = p; name = c }) (at p (code c) ts)
+first-here : (p : ℕ) (c : Code) (ts : Tokens) → ((q : ℕ) (d : Code) → Stands q d ts → p ≤ q) → First (record { place = p; name = c })
+    (at p (code c) ts)
 first-here p c ts a = (
   inl (refl, refl),
   λ q s. ⊎-elim (λ (h : (q ≡ p) × (code c ≡ code c)). omega (arith, h .0)) (λ (h : Stands q c ts). a q c h) s,

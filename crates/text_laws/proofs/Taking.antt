@@ -29,7 +29,8 @@ pub record Takes (L : ℕ → Level) (d k : ℕ) (u : List Flag) (m : ℕ) (ts :
 
 -- so wherever fewer than n tokens are left and the walk accepts
 abbrev pub Taking : (ℕ → Level) → ℕ → ℕ → ℕ → Type 0
-Taking L d k n = (u : List Flag) (m : ℕ) (ts : Tokens) (w : List Flag) (j : ℕ) → size ts < n → walk operand d u m ts ≡ accepted w j → Takes L d k u m ts
+Taking L d k n = (u : List Flag) (m : ℕ) (ts : Tokens) (w : List Flag) (j : ℕ) → size ts < n → walk operand d u m ts ≡ accepted w j → Takes L d k
+    u m ts
 
 leaves-joined : (s : Sign) (g h : Guard) → leaves (joined s g h) ≡ leaves g ++ leaves h
 unfolding leaves
@@ -38,7 +39,8 @@ leaves-joined s g h = refl
 module _ (s : Sign) (next : Level) (d k : ℕ) (b : binding s ≡ k + 1) (n : ℕ) (o : Taking (plain next) d k n) where
   -- a chain that groups to the left
   left-on : (i : ℕ) (u₀ : List Flag) (m₀ : ℕ) (ts₀ : Tokens) (g : Guard) (u : List Flag) (m : ℕ) (ts : Tokens) (w : List Flag) (j : ℕ) →
-      Chain s next d k u₀ m₀ ts₀ g u m ts → Passes u₀ ts₀ (leaves g) u ts → size ts < i → size ts < n → walk after d u m ts ≡ accepted w j →
+      Chain s next d k u₀ m₀ ts₀ g u m ts → Passes u₀ ts₀ (leaves g) u ts → size ts < i → size ts < n → walk after d u m ts ≡ accepted w j
+      →
       Takes (plain (leftLevel s next)) d (k + 1) u₀ m₀ ts₀
   left-on zero u₀ m₀ ts₀ g u m ts w j c p l q e = absurd (omega arith)
   left-on (suc i) u₀ m₀ ts₀ g u m ts w j c p l q e =
@@ -63,7 +65,8 @@ module _ (s : Sign) (next : Level) (d k : ℕ) (b : binding s ≡ k + 1) (n : �
       (omega arith) (omega arith) (sym (t .reads .walked) ∙ e)
 
   -- a chain that groups to the right
-  right-on : (i : ℕ) (u : List Flag) (m : ℕ) (ts : Tokens) (w : List Flag) (j : ℕ) → size ts < i → size ts < n → walk operand d u m ts ≡ accepted w j →
+  right-on : (i : ℕ) (u : List Flag) (m : ℕ) (ts : Tokens) (w : List Flag) (j : ℕ) → size ts < i → size ts < n → walk operand d u m ts
+      ≡ accepted w j →
       Takes (toTheRight s next) d (k + 1) u m ts
   right-on zero u m ts w j l q e = absurd (omega arith)
   right-on (suc i) u m ts w j l q e =

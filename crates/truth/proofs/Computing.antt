@@ -39,7 +39,8 @@ module _ (n s : ℕ) (xs : List ℕ) where
   unfolding computed
   flag-at-start i h = rw (ne-eqb i 0 (λ e. omega arith))
 
-  pub triplet-made : (j : ℕ) → computed n s xs (suc j) (tripletVariable (suc j)) ≡ gate (kindAt xs j) (literalValue (computed n s xs j) (yAt xs j)) (literalValue (computed n s xs j) (zAt xs j))
+  pub triplet-made : (j : ℕ) → computed n s xs (suc j) (tripletVariable (suc j)) ≡ gate (kindAt xs j) (literalValue (computed n s xs j) (yAt xs j))
+      (literalValue (computed n s xs j) (zAt xs j))
   unfolding computed
   triplet-made j = rw (eq-eqb (tripletVariable (suc j)) (tripletVariable (suc j)) refl)
 
@@ -50,21 +51,30 @@ module _ (n s : ℕ) (xs : List ℕ) where
         let e : c ≡ j + (c - j) = omega arith in
         rw e
         (literal-agrees (computed n s xs (j + (c - j))) (computed n s xs j) l
-        (triplet-kept (c - j) j (l / 2) (⊎-elim (λ (p : l / 2 ≤ n). omega arith) (λ (p : (tripletVariable 0 < l / 2) × (l / 2 ≤ tripletVariable j)). omega arith) m)))
+        (triplet-kept (c - j) j (l / 2) (⊎-elim (λ (p : l / 2 ≤ n). omega arith)
+        (λ (p : (tripletVariable 0 < l / 2) × (l / 2 ≤ tripletVariable j)). omega arith) m)))
 
     triplet-holds : (c j : ℕ) → Shape n c xs → j < c
-        → computed n s xs c (tripletVariable (suc j)) ≡ gate (kindAt xs j) (literalValue (computed n s xs c) (yAt xs j)) (literalValue (computed n s xs c) (zAt xs j))
+        → computed n s xs c (tripletVariable (suc j)) ≡ gate (kindAt xs j) (literalValue (computed n s xs c) (yAt xs j))
+        (literalValue (computed n s xs c) (zAt xs j))
     triplet-holds c j shape h =
         let e : c ≡ suc j + (c - suc j) = omega arith in
-        let made : computed n s xs c (tripletVariable (suc j)) ≡ computed n s xs (suc j) (tripletVariable (suc j)) = ap (λ k. computed n s xs k (tripletVariable (suc j))) e ∙ triplet-kept (c - suc j) (suc j) (tripletVariable (suc j)) (omega arith) in
+        let made : computed n s xs c (tripletVariable (suc j)) ≡ computed n s xs (suc j) (tripletVariable (suc j)) = ap
+        (λ k. computed n s xs k (tripletVariable (suc j))) e ∙ triplet-kept (c - suc j) (suc j) (tripletVariable (suc j)) (omega arith) in
         rw (made, triplet-made j, named-kept c j (yAt xs j) (omega arith) (shape .ys j h), named-kept c j (zAt xs j) (omega arith) (shape .zs j h))
 
     -- what is computed gives every variable its value
     pub valued : (c : ℕ) → Shape n c xs → Valued n s c xs (computed n s xs c)
-    valued c shape = record { top = flag-kept c 0 (omega arith) ∙ true-at-start; flags = λ i p q. flag-kept c i (omega arith) ∙ flag-at-start i p; gates = λ j h. triplet-holds c j shape h }
+    valued c shape = record {
+      top = flag-kept c 0 (omega arith) ∙ true-at-start;
+      flags = λ i p q. flag-kept c i (omega arith) ∙ flag-at-start i p;
+      gates
+          = λ j h. triplet-holds c j shape h;
+    }
 
 -- what is computed of c triplets goes by their numbers alone
-pub computed-same : (n s c : ℕ) (xs ys : List ℕ) → ((k : ℕ) → k < 3 * c → getD ys k 0 ≡ getD xs k 0) → (v : ℕ) → computed n s ys c v ≡ computed n s xs c v
+pub computed-same : (n s c : ℕ) (xs ys : List ℕ) → ((k : ℕ) → k < 3 * c → getD ys k 0 ≡ getD xs k 0) → (v : ℕ) → computed n s ys c v
+    ≡ computed n s xs c v
 unfolding computed
 computed-same n s zero xs ys h v = refl
 computed-same n s (suc c) xs ys h v =
@@ -104,11 +114,14 @@ module _ (n s c : ℕ) (xs : List ℕ) (small : n ≤ flagCeiling) (shape : Shap
       record {
         top = kept 0 (omega arith) ∙ old .top;
         flags = λ i p q. kept i (omega arith) ∙ old .flags i p q;
-        gates = λ k p. ⊎-elim (λ (e : k ≡ j). rw e (made ∙ both j h (omega arith))) (λ (l : k < j). kept (tripletVariable (suc k)) (omega arith) ∙ old .gates k l ∙ both k (omega arith) (omega arith)) (eq-or-lt-of-le (le-of-suc-le-suc p));
+        gates = λ k p. ⊎-elim (λ (e : k ≡ j). rw e (made ∙ both j h (omega arith)))
+            (λ (l : k < j). kept (tripletVariable (suc k)) (omega arith) ∙ old .gates k l ∙ both k (omega arith) (omega arith))
+            (eq-or-lt-of-le (le-of-suc-le-suc p));
       }
     where
       both : (k : ℕ) → k < c → k ≤ j
-          → gate (kindAt xs k) (literalValue v (yAt xs k)) (literalValue v (zAt xs k)) ≡ gate (kindAt xs k) (literalValue w (yAt xs k)) (literalValue w (zAt xs k))
+          → gate (kindAt xs k) (literalValue v (yAt xs k)) (literalValue v (zAt xs k)) ≡ gate (kindAt xs k) (literalValue w (yAt xs k))
+          (literalValue w (zAt xs k))
       both k l b =
           ap₂ (gate (kindAt xs k))
           (literal-agrees v w (yAt xs k) (sym (kept (yAt xs k / 2) (omega (arith, named-below n k (yAt xs k) small (shape .ys k l))))))
@@ -133,6 +146,7 @@ valued-unique n s c xs v w small shape p q (suc j) h l m =
     literal-agrees v w l
     (rw e
     (p .gates j h
-    ∙ ap₂ (gate (kindAt xs j)) (valued-unique n s c xs v w small shape p q j (omega arith) (yAt xs j) (shape .ys j h)) (valued-unique n s c xs v w small shape p q j (omega arith) (zAt xs j) (shape .zs j h))
+    ∙ ap₂ (gate (kindAt xs j)) (valued-unique n s c xs v w small shape p q j (omega arith) (yAt xs j) (shape .ys j h))
+    (valued-unique n s c xs v w small shape p q j (omega arith) (zAt xs j) (shape .zs j h))
     ∙ sym (q .gates j h))))
     (named-cases n j l small m)

@@ -41,8 +41,13 @@ holds-numbers (t ∷ ts) pre c e =
     let p₀ : 3 * c ≡ length pre + 0 = omega arith in
     let p₁ : 3 * c + 1 ≡ length pre + 1 = omega arith in
     let p₂ : 3 * c + 2 ≡ length pre + 2 = omega arith in
-    let l : length (pre ++ more) ≡ 3 * suc c = rw length-append (omega arith) in
-    (rw p₀ (getD-append-add pre rest 0 0), rw p₁ (getD-append-add pre rest 1 0), rw p₂ (getD-append-add pre rest 2 0), rw append-assoc at (holds-numbers ts (pre ++ more) (suc c) l))
+    let l : length (pre ++ more) ≡ 3 * suc c = rw length-append (omega arith) in (
+      rw p₀ (getD-append-add pre rest 0 0),
+      rw p₁ (getD-append-add pre rest 1 0),
+      rw p₂ (getD-append-add pre rest 2 0),
+      rw append-assoc at
+          (holds-numbers ts (pre ++ more) (suc c) l),
+    )
 
 -- a disjunction and a conjunction by an implication
 pub or-table : (a b : Bool) → table implies (not a) b ≡ table or a b
@@ -77,12 +82,16 @@ module _ (n s c : ℕ) (xs : List ℕ) (v : ℕ → Bool) (holds : Valued n s c 
   rooted (negated g) k f h b = literal-negation v (literal k g) ∙ ap not (rooted g k f h b)
   rooted (joined t g h) k f a b =
       let j : ℕ = k + connectives g + connectives h in
-      let right : Holds xs (k + connectives g) (triplets (k + connectives g) h ++ (tripletOf t (literal k g) (literal (k + connectives g) h) ∷ [])) = holds-right xs (triplets k g) _ k (k + connectives g) (rw count-triplets refl) a in
-      let own : Holds xs j (tripletOf t (literal k g) (literal (k + connectives g) h) ∷ []) = holds-right xs (triplets (k + connectives g) h) _ (k + connectives g) j (rw count-triplets refl) right in
+      let right : Holds xs (k + connectives g) (triplets (k + connectives g) h ++ (tripletOf t (literal k g) (literal (k + connectives g) h) ∷ [])) =
+      holds-right xs (triplets k g) _ k (k + connectives g) (rw count-triplets refl) a in
+      let own : Holds xs j (tripletOf t (literal k g) (literal (k + connectives g) h) ∷ []) = holds-right xs (triplets (k + connectives g) h) _
+      (k + connectives g) j (rw count-triplets refl) right in
       let e : tripletVariable (k + (connectives g + connectives h + 1)) ≡ tripletVariable (suc j) = omega arith in
       rw e
-      (made v t (literal k g) (literal (k + connectives g) h) (tripletVariable (suc j)) (kindAt xs j) (yAt xs j) (zAt xs j) (own .0) (own .1) (own .2) (holds .gates j (omega arith))
-      ∙ ap₂ (table t) (rooted g k (f .0) (holds-left xs (triplets k g) _ k a) (omega arith)) (rooted h (k + connectives g) (f .1) (holds-left xs (triplets (k + connectives g) h) _ (k + connectives g) right) (omega arith)))
+      (made v t (literal k g) (literal (k + connectives g) h) (tripletVariable (suc j)) (kindAt xs j) (yAt xs j) (zAt xs j) (own .0) (own .1) (own .2)
+      (holds .gates j (omega arith))
+      ∙ ap₂ (table t) (rooted g k (f .0) (holds-left xs (triplets k g) _ k a) (omega arith))
+      (rooted h (k + connectives g) (f .1) (holds-left xs (triplets (k + connectives g) h) _ (k + connectives g) right) (omega arith)))
 
 -- what the triplets of a tree compute at the root, in every state, is the tree's value
 pub root-value : (n s : ℕ) (g : Guard) → n ≤ flagCeiling → FlagsWithin n g → Shape n (connectives g) (numbers (triplets 0 g))

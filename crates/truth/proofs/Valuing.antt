@@ -42,7 +42,8 @@ flags-more n s k values after b f h e =
     record {
       long = length-set after (k + 1) b ∙ f .long;
       top = set-elsewhere after (k + 1) 0 b (λ q. omega arith) ∙ f .top;
-      flags = λ i p q. ⊎-elim (λ (a : i ≡ k + 1). rw a (set-here after (k + 1) b h ∙ e)) (λ (a : i ≡ k + 1 → ⊥). set-elsewhere after (k + 1) i b a ∙ f .flags i p (below i a q)) (split-eq i (k + 1));
+      flags = λ i p q. ⊎-elim (λ (a : i ≡ k + 1). rw a (set-here after (k + 1) b h ∙ e))
+          (λ (a : i ≡ k + 1 → ⊥). set-elsewhere after (k + 1) i b a ∙ f .flags i p (below i a q)) (split-eq i (k + 1));
     }
   where
     below : (i : ℕ) → (i ≡ k + 1 → ⊥) → i ≤ k + 1 → i ≤ k
@@ -71,9 +72,15 @@ module _ (n s c root : ℕ) (xs : List ℕ) (t : Triplets n xs c root) where
       (rw add-one more, length-set values x b ∙ long, omega arith)
 
   -- what a triplet and the root name is among as many variables as there may be
-  pub operands-known : (j m : ℕ) → j < c → m ≡ tripletVariable (suc connectiveCeiling) → (3 * j + 2 < length xs) × (yAt xs j / 2 < m) × (zAt xs j / 2 < m)
+  pub operands-known : (j m : ℕ) → j < c → m ≡ tripletVariable (suc connectiveCeiling) → (3 * j + 2 < length xs) × (yAt xs j / 2 < m)
+      × (zAt xs j / 2 < m)
   operands-known j m h e =
-      let a = t .count in (omega arith, omega (arith, named-below n j (yAt xs j) (t .flags) (t .shape .ys j h)), omega (arith, named-below n j (zAt xs j) (t .flags) (t .shape .zs j h)))
+      let a = t .count in (
+        omega arith,
+        omega (arith, named-below n j (yAt xs j) (t .flags) (t .shape .ys j h)),
+        omega
+            (arith, named-below n j (zAt xs j) (t .flags) (t .shape .zs j h)),
+      )
 
   pub root-known : (m : ℕ) → m ≡ tripletVariable (suc connectiveCeiling) → root / 2 < m
   root-known m e = let a = t .count in omega (arith, named-below n c root (t .flags) (t .named))
@@ -82,4 +89,5 @@ module _ (n s c root : ℕ) (xs : List ℕ) (t : Triplets n xs c root) where
   pub root-set : (values : List Bool) → Valued n s c xs (valueIn values) → literalValue (valueIn values) root ≡ rootValue n xs c root s
   unfolding rootValue
   root-set values v =
-      valued-unique n s c xs (valueIn values) (computed n s xs c) (t .flags) (t .shape) v (valued n s xs (t .flags) c (t .shape)) c (omega arith) root (t .named)
+      valued-unique n s c xs (valueIn values) (computed n s xs c) (t .flags) (t .shape) v (valued n s xs (t .flags) c (t .shape)) c (omega arith) root
+      (t .named)

@@ -34,8 +34,10 @@ fn gate_value(kind: u16, y: bool, z: bool) -> bool
 
 // The value of triplet j, counted from 0, where the variables before it have these values.
 fn triplet_value(values: &[bool], triplets: &[u16], j: usize) -> bool
-    requires { ⌜ (3 * j + 2 < length (now triplets)) × (yAt (now triplets) j / 2 < length (now values)) × (zAt (now triplets) j / 2 < length (now values)) ⌝ }
-    ensures { λ r. ⌜ r ≡ gate (kindAt (now (triplets .entry)) j) (literalValue (valueIn (now (values .entry))) (yAt (now (triplets .entry)) j)) (literalValue (valueIn (now (values .entry))) (zAt (now (triplets .entry)) j)) ⌝ }
+    requires { ⌜ (3 * j + 2 < length (now triplets)) × (yAt (now triplets) j / 2 < length (now values)) × (zAt (now triplets) j / 2 < length (now values))
+        ⌝ }
+    ensures { λ r. ⌜ r ≡ gate (kindAt (now (triplets .entry)) j) (literalValue (valueIn (now (values .entry))) (yAt (now (triplets .entry)) j))
+        (literalValue (valueIn (now (values .entry))) (zAt (now (triplets .entry)) j)) ⌝ }
 {
     let y = literal_value(values, triplets[3 * j + 1]);
     let z = literal_value(values, triplets[3 * j + 2]);

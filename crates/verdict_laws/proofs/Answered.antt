@@ -21,7 +21,8 @@ use Rattle.guard_check.specs.Check.{depthCeiling, asked, ReadingSays, CheckSays
 use Rattle.saturation.specs.declared.verdict.Verdict.{Verdict}
 use Rattle.saturation.specs.declared.verdict.Verdict.the-variants.{Covered, Gap, Undecided, Refused}
 use Rattle.guard_check.proofs.Checking.{asks-text}
-use Rattle.verdict_laws.specs.Trial.{Started, Tried, as-false, as-true, Through, no-flag, next-flag, Fixes, Outline, is-covered, is-gap, is-undecided, OutlineSays}
+use Rattle.verdict_laws.specs.Trial.{Started, Tried, as-false, as-true, Through, no-flag, next-flag, Fixes, Outline, is-covered, is-gap}
+use Rattle.verdict_laws.specs.Trial.{is-undecided, OutlineSays}
 use Rattle.verdict_laws.specs.Together.{IsRead}
 use Rattle.verdict_laws.proofs.Trials.{through-reaches, outline-answer, outline-same}
 use Rattle.verdict_laws.proofs.Services.{read-short}

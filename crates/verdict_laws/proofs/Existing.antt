@@ -200,7 +200,8 @@ module _ (M n : ℕ) (ts : List Triplet) (low : Each (Low M) 0 ts) (flags : n < 
       (split-either k f flag S (on .0) (off .0) r (on .2) (off .2) (on .1) (off .1))
 
   -- one deeper: no step enlarges S and each split is held, or something is lacking
-  deeper-either : (k : ℕ) → Saturates k → (S : Rel) → IsRelation S → Small M S → Stable (Flags n) ts (suc k) S ⊎ Lacks M (Stable (Flags n) ts (suc k)) S
+  deeper-either : (k : ℕ) → Saturates k → (S : Rel) → IsRelation S → Small M S → Stable (Flags n) ts (suc k) S ⊎ Lacks M
+      (Stable (Flags n) ts (suc k)) S
   deeper-either k saturates S r s =
       ⊎-elim
       (λ (rests : Each (HoldsStepOn S S) 0 ts).

@@ -36,7 +36,8 @@ module _ (n : ℕ) (g : Guard) (proper : Proper n g) where
   pub checked-full : (k : ℕ) → n ≤ k → ((s : ℕ) → s < 2 ^ n → value n s g ≡ true) → Checked n g k Covered
   checked-full = full-covered (Flags n) n g proper (λ f h. h)
 
-  pub checked-full-gap : (k : ℕ) → n ≤ k → (s : ℕ) → s < 2 ^ n → value n s g ≡ false → ((t : ℕ) → t < s → value n t g ≡ true) → Checked n g k (Gap s)
+  pub checked-full-gap : (k : ℕ) → n ≤ k → (s : ℕ) → s < 2 ^ n → value n s g ≡ false → ((t : ℕ) → t < s → value n t g ≡ true)
+      → Checked n g k (Gap s)
   checked-full-gap = full-gap (Flags n) n g proper (λ f h. h)
 
   -- a greater depth keeps "covered", and "gap" with its state

@@ -123,7 +123,8 @@ module _ (S : Rel) (r : IsRelation S) (l m : ℕ) where
   joined-holds : S l (negation m) ≡ false → joined l m ≡ true
   joined-holds off = rw (off, r .reflexive m, stays-l (S l m)) (r .reflexive l)
 
-  back : (A : Rel) → IsRelation A → Within S A → A l m ≡ true → (a : ℕ) (p q : Bool) → S a m ≡ p → S a (negation m) ≡ q → A a (pick p q a) ≡ true
+  back : (A : Rel) → IsRelation A → Within S A → A l m ≡ true → (a : ℕ) (p q : Bool) → S a m ≡ p → S a (negation m) ≡ q → A a
+      (pick p q a) ≡ true
   back A c w h a true q e f = c .transitive a m l (w a m e) (c .symmetric l m h)
   back A c w h a false true e f =
       c .transitive a (negation m) (negation l) (w a (negation m) f) (c .negating m l (c .symmetric l m h))

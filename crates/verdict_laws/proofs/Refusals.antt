@@ -37,7 +37,8 @@ module _ (text : List ℕ) (f : Refusal) (says : reading text ≡ refusal (f .nu
       ⊎-elim (λ (h : textCeiling < length text). check-long h depth) (λ (h : length text ≤ textCeiling). refused-too text depth h d f says)
       (lt-or-ge textCeiling (length text))
 
-  read-refused : (room : List ℕ) (r : Parsed) (after : List ℕ) → ReadSays text room r after → (r ≡ refusedWith (f .number) (f .place)) × (after ≡ room)
+  read-refused : (room : List ℕ) (r : Parsed) (after : List ℕ) → ReadSays text room r after → (r ≡ refusedWith (f .number) (f .place))
+      × (after ≡ room)
   unfolding readAnswer roomAfter
   read-refused room r after h = (rw says at (h .answer), rw says at (h .left))
 

@@ -58,7 +58,8 @@ verdict-read text depth r n h =
     (λ (a : length text ≤ textCeiling).
     ⊎-elim
     (λ (b : depthCeiling < depth). absurd (not-refused 2 0 r n (subst (λ (x : Reading). ReadingSays x depth r) (asks-deep text depth a b) h)))
-    (λ (b : depth ≤ depthCeiling). read-when text depth r n (reading text) refl (subst (λ (x : Reading). ReadingSays x depth r) (asks-text text depth a b) h))
+    (λ (b : depth ≤ depthCeiling). read-when text depth r n (reading text) refl
+    (subst (λ (x : Reading). ReadingSays x depth r) (asks-text text depth a b) h))
     (lt-or-ge depthCeiling depth))
     (lt-or-ge textCeiling (length text))
 

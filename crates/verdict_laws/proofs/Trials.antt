@@ -14,7 +14,8 @@ use Rattle.saturation.proofs.Splits.{refuted-held, trial-next}
 use Rattle.saturation.proofs.Confirmed.{trial-below}
 use Rattle.saturation.specs.declared.verdict.Verdict.{Verdict}
 use Rattle.saturation.proofs.Verdicts.{answer-unique}
-use Rattle.verdict_laws.specs.Trial.{Contradictory, Started, Added, Tried, as-false, as-true, Through, no-flag, next-flag, Fixes, Outline, is-covered, is-gap, is-undecided, Reached}
+use Rattle.verdict_laws.specs.Trial.{Contradictory, Started, Added, Tried, as-false, as-true, Through, no-flag, next-flag, Fixes, Outline}
+use Rattle.verdict_laws.specs.Trial.{is-covered, is-gap, is-undecided, Reached}
 
 module _ (D : ℕ → Type 0) (ts : List Triplet) (root k : ℕ) where
   -- on the way: T is "root = false" and flags 1 to i as the state s has them, saturated
@@ -90,13 +91,15 @@ unfolding negation
 both-ways T f r p q =
     r .transitive 0 (2 * f + 1) 1 (r .symmetric (2 * f + 1) 0 q) (rw (negation-even f) at (r .negating (2 * f) 0 p))
 
-one-bit : (T : Rel) (f a b : ℕ) → IsRelation T → (Contradictory T → ⊥) → a < 2 → b < 2 → T (flagAs f a) 0 ≡ true → T (flagAs f b) 0 ≡ true → a ≡ b
+one-bit : (T : Rel) (f a b : ℕ) → IsRelation T → (Contradictory T → ⊥) → a < 2 → b < 2 → T (flagAs f a) 0 ≡ true → T (flagAs f b) 0
+    ≡ true → a ≡ b
 one-bit T f zero zero r e l m p q = refl
 one-bit T f zero (suc b) r e l m p q = absurd (e (both-ways T f r q p))
 one-bit T f (suc a) zero r e l m p q = absurd (e (both-ways T f r p q))
 one-bit T f (suc a) (suc b) r e l m p q = omega arith
 
-one-state : (T : Rel) (n s t : ℕ) → IsRelation T → (Contradictory T → ⊥) → s < 2 ^ n → t < 2 ^ n → HoldsAll T (flagsAs n s) → HoldsAll T (flagsAs n t) → s ≡ t
+one-state : (T : Rel) (n s t : ℕ) → IsRelation T → (Contradictory T → ⊥) → s < 2 ^ n → t < 2 ^ n → HoldsAll T (flagsAs n s) → HoldsAll T
+    (flagsAs n t) → s ≡ t
 unfolding flagsAs
 one-state T zero s t r e l m p q = omega arith
 one-state T (suc n) s t r e l m p q =

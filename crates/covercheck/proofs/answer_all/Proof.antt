@@ -57,8 +57,12 @@ loop-again : tie.Need-loop-again Inv-loop μ-loop
 loop-again c =
     let args· = c .before .before .before .before .before .before .args in
     let loop· = c .before .before .before .before .loop in
-    let line-end· = c .before .before .line-end in
-    (before-next (args· .input .now) (loop· .number) (loop· .start) (line-end· .result) (loop· .inv .0) (line-end· .ensures), omega (arith, line-end· .ensures .later, loop· .inv .1), omega (arith, line-end· .ensures .inside))
+    let line-end· = c .before .before .line-end in (
+      before-next (args· .input .now) (loop· .number) (loop· .start) (line-end· .result) (loop· .inv .0) (line-end· .ensures),
+      omega
+          (arith, line-end· .ensures .later, loop· .inv .1),
+      omega (arith, line-end· .ensures .inside),
+    )
 
 returns-2 : tie.Need-returns-2 Inv-loop μ-loop
 returns-2 c =

@@ -63,7 +63,12 @@ answer-input-requires : tie.Need-answer-input-requires
 answer-input-requires c κs =
     let read· = c .before .before .before .read in
     let read-whole· = c .before .before .before .before .before .before .read-whole in
-    omega (arith, ended-within (inputCeiling + 1) (read· .given .0 .0) (read-whole· .result) (read· .given .1) (read-whole· .ensures), length-take (read· .given .0 .0 - 0) (drop 0 (read-whole· .last .0)))
+    omega (
+      arith,
+      ended-within (inputCeiling + 1) (read· .given .0 .0) (read-whole· .result) (read· .given .1) (read-whole· .ensures),
+      length-take
+          (read· .given .0 .0 - 0) (drop 0 (read-whole· .last .0)),
+    )
 
 returns-2 : tie.Need-returns-2
 returns-2 c = search needs

@@ -12,7 +12,8 @@ use Rattle.fixing.proofs.fix_first.Statement.{statement}
 use Rattle.fixing.proofs.fix_first.Tie as tie
 
 abbrev Inv-loop : tie.InvT-loop
-Inv-loop xs count root n b to₀ ys₀ c₀ j₀ to ys c j = Fixing n b xs j (λ l. getD to l 0) c ys × (length to ≡ length to₀) × (length ys ≡ length ys₀) × (j ≤ count)
+Inv-loop xs count root n b to₀ ys₀ c₀ j₀ to ys c j = Fixing n b xs j (λ l. getD to l 0) c ys × (length to ≡ length to₀)
+    × (length ys ≡ length ys₀) × (j ≤ count)
 
 abbrev μ-loop : tie.MeasureT-loop
 μ-loop xs count root n b to₀ ys₀ c₀ j₀ to ys c j = count - j
@@ -32,8 +33,17 @@ fix-triplet-requires c κs =
     let loop-test· = c .before .before .loop-test in
     let pre· = c .before .before .before .before .before .before .before .before .before .before .before .pre in
     let loop· = c .before .before .before .loop in
-    let args· = c .before .before .before .before .before .before .before .before .before .before .before .args in
-    ((omega arith, loop· .inv .0 .few, omega arith, omega arith, omega arith), record { kind = pre· .1 .0 .kinds _ (loop-test· .taken); y = operand-below (args· .n) (args· .b) (args· .xs .now) (loop· .j) (loop· .to) (loop· .c) (loop· .ys) _ (pre· .0 .0) (loop· .inv .0) (pre· .1 .0 .ys _ (loop-test· .taken)) (omega arith); z = operand-below (args· .n) (args· .b) (args· .xs .now) (loop· .j) (loop· .to) (loop· .c) (loop· .ys) _ (pre· .0 .0) (loop· .inv .0) (pre· .1 .0 .zs _ (loop-test· .taken)) (omega arith) })
+    let args· = c .before .before .before .before .before .before .before .before .before .before .before .args in (
+      (omega arith, loop· .inv .0 .few, omega arith, omega arith, omega arith),
+      record {
+        kind = pre· .1 .0 .kinds _ (loop-test· .taken);
+        y = operand-below (args· .n) (args· .b) (args· .xs .now) (loop· .j) (loop· .to) (loop· .c)
+            (loop· .ys) _ (pre· .0 .0) (loop· .inv .0) (pre· .1 .0 .ys _ (loop-test· .taken)) (omega arith);
+        z = operand-below (args· .n) (args· .b)
+            (args· .xs .now) (loop· .j) (loop· .to) (loop· .c) (loop· .ys) _ (pre· .0 .0) (loop· .inv .0) (pre· .1 .0 .zs _ (loop-test· .taken))
+            (omega arith);
+      },
+    )
 
 add-j : tie.Need-add-j Inv-loop μ-loop
 add-j c = record { fits = omega arith }
@@ -46,8 +56,14 @@ loop-again c =
     let pre· = c .before .before .before .before .before .before .before .before .before .before .before .before .before .before .before .before .pre in
     let loop· = c .before .before .before .before .before .before .before .before .loop in
     let loop-test· = c .before .before .before .before .before .before .before .loop-test in
-    let fix-triplet· = c .before .before .before .before .fix-triplet in
-    (rw add-one (fixing-again _ _ _ _ _ _ _ _ _ _ (pre· .0 .0) (loop· .inv .0) (pre· .1 .0 .ys _ (loop-test· .taken)) (pre· .1 .0 .zs _ (loop-test· .taken)) (pre· .1 .0 .kinds _ (loop-test· .taken)) (fix-triplet· .ensures)), fix-triplet· .kept .1 .1 .0 ∙ loop· .inv .1, fix-triplet· .kept .1 .1 .1 .0 ∙ loop· .inv .2, omega arith)
+    let fix-triplet· = c .before .before .before .before .fix-triplet in (
+      rw add-one (fixing-again _ _ _ _ _ _ _ _ _ _ (pre· .0 .0) (loop· .inv .0) (pre· .1 .0 .ys _ (loop-test· .taken))
+          (pre· .1 .0 .zs _ (loop-test· .taken)) (pre· .1 .0 .kinds _ (loop-test· .taken)) (fix-triplet· .ensures)),
+      fix-triplet· .kept .1 .1 .0
+          ∙ loop· .inv .1,
+      fix-triplet· .kept .1 .1 .1 .0 ∙ loop· .inv .2,
+      omega arith,
+    )
 
 mul-t19 : tie.Need-mul-t19 Inv-loop μ-loop
 mul-t19 c = record { fits = omega arith }

@@ -64,4 +64,5 @@ pub record TripletFixed (xs : List ℕ) (j : ℕ) (to : List ℕ) (c : ℕ) (ys 
   pub put : Put to j t to′
   pub agree : (k : ℕ) → k < 3 * c → getD ys′ k 0 ≡ getD ys k 0
   pub became : ((c′ ≡ c) × Stands (kindAt xs j) (getD to (yAt xs j) 0) (getD to (zAt xs j) 0) t)
-      ⊎ ((c′ ≡ suc c) × (t ≡ 2 * tripletVariable (suc c)) × (kindAt ys′ c ≡ kindAt xs j) × (yAt ys′ c ≡ getD to (yAt xs j) 0) × (zAt ys′ c ≡ getD to (zAt xs j) 0))
+      ⊎ ((c′ ≡ suc c) × (t ≡ 2 * tripletVariable (suc c)) × (kindAt ys′ c ≡ kindAt xs j) × (yAt ys′ c ≡ getD to (yAt xs j) 0)
+      × (zAt ys′ c ≡ getD to (zAt xs j) 0))

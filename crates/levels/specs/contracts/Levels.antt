@@ -18,11 +18,12 @@ use Rattle.operands.specs.declared.Answer.{Answer}
 use Rattle.operands.specs.declared.Answer.the-variants as answer
 
 -- the level L, with enough room for further operands, reads the guard g from the tokens ts, d brackets being open
-pub record Reads (L : ℕ → Level) (d k : ℕ) (u : List Flag) (m : ℕ) (ts : Tokens) (g : Guard) (u′ : List Flag) (m′ : ℕ) (ts′ : Tokens) : Type 0 where
-  pub parsed : (f : ℕ) → connectiveCeiling ≤ f + m → L f u ts ≡ found g u′ ts′
-  pub walked : walk operand d u m ts ≡ walk after d u′ m′ ts′
-  pub signs : m′ ≡ m + connectives g
-  pub stops : (s : Sign) → binding s ≤ k → signNext s ts′ ≡ false
+pub record Reads (L : ℕ → Level) (d k : ℕ) (u : List Flag) (m : ℕ) (ts : Tokens) (g : Guard) (u′ : List Flag) (m′ : ℕ) (ts′ : Tokens) : Type 0
+  where
+    pub parsed : (f : ℕ) → connectiveCeiling ≤ f + m → L f u ts ≡ found g u′ ts′
+    pub walked : walk operand d u m ts ≡ walk after d u′ m′ ts′
+    pub signs : m′ ≡ m + connectives g
+    pub stops : (s : Sign) → binding s ≤ k → signNext s ts′ ≡ false
 
 -- the triplets of the guard g have been written after c others, and l is its literal
 pub record Writes (c c′ : ℕ) (out out′ : List ℕ) (g : Guard) (l : ℕ) : Type 0 where
@@ -93,7 +94,8 @@ pub record Says (L : ℕ → Level) (d k : ℕ) (text p codes out wait : List �
 
 -- the first operand of a chain that the sign s joins was read from p₀, and the reader stands at p after it
 abbrev pub First : Sign → ℕ → List ℕ → List ℕ → List ℕ → List ℕ → ℕ → List ℕ → List ℕ → List ℕ → Type 0
-First s d text p₀ codes₀ out₀ l p codes out = FoundPart (plain (belowOf s (operandsAt d))) d (tighter s) text (place p₀) codes₀ out₀ (part l p) codes out
+First s d text p₀ codes₀ out₀ l p codes out = FoundPart (plain (belowOf s (operandsAt d))) d (tighter s) text (place p₀) codes₀ out₀ (part l p)
+    codes out
 
 -- what the rest of a chain asks: a first operand was read from some place
 pub record Begun (s : Sign) (d : ℕ) (text : List ℕ) (l : ℕ) (p codes out wait : List ℕ) : Type 0 where
@@ -106,7 +108,8 @@ pub record Begun (s : Sign) (d : ℕ) (text : List ℕ) (l : ℕ) (p codes out w
   pub brackets : d ≤ bracketCeiling
 
 -- what it answers: wherever the first operand was read from, the chain is read from there
-abbrev pub ChainSays : Sign → ℕ → List ℕ → ℕ → List ℕ → List ℕ → List ℕ → List ℕ → Answer → List ℕ → List ℕ → List ℕ → List ℕ → Type 0
+abbrev pub ChainSays : Sign → ℕ → List ℕ → ℕ → List ℕ → List ℕ → List ℕ → List ℕ → Answer → List ℕ → List ℕ → List ℕ
+    → List ℕ → Type 0
 ChainSays s d text l p codes out wait r p′ codes′ out′ wait′ =
     (p₀ codes₀ out₀ wait₀ : List ℕ) → First s d text p₀ codes₀ out₀ l p codes out → Still p₀ wait₀ p wait →
     Says (plain (leftLevel s (belowOf s (operandsAt d)))) d (tighter s + 1) text p₀ codes₀ out₀ wait₀ r p′ codes′ out′ wait′

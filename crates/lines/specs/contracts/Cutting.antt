@@ -15,7 +15,8 @@ pub record LineEnd (input : List ℕ) (start r : ℕ) : Type 0 where
 -- going through an input from a place on, each line's end found from its start, meets these lines
 pub data Through (input : List ℕ) : ℕ → List (List ℕ) → Type 0 where
   ended : {start : ℕ} → length input ≤ start → Through input start []
-  line : {start r : ℕ} {ls : List (List ℕ)} → start < length input → LineEnd input start r → Through input (r + 1) ls → Through input start (part start r input ∷ ls)
+  line : {start r : ℕ} {ls : List (List ℕ)} → start < length input → LineEnd input start r → Through input (r + 1) ls → Through input start
+      (part start r input ∷ ls)
 
 -- n lines of the input stand before a place, and the others start there
 pub record LinesBefore (input : List ℕ) (n start : ℕ) : Type 0 where

@@ -24,7 +24,8 @@ returns c =
     let parsed· = c .before .parsed in
     let parse· = c .before .before .before .parse in
     lists-refusal (args· .text .now) (args· .start) (args· .out .now) (parsed· .given .0 .0)
-    (refusal-found (args· .text .now) (reading (args· .text .now)) (parse· .result) (parse· .last .1 .0) (parse· .last .1 .1 .0) (parse· .ensures) (parsed· .given .0 .0) (parsed· .given .1))
+    (refusal-found (args· .text .now) (reading (args· .text .now)) (parse· .result) (parse· .last .1 .0) (parse· .last .1 .1 .0) (parse· .ensures)
+    (parsed· .given .0 .0) (parsed· .given .1))
 
 enum-known-parsed-2 : tie.Need-enum-known-parsed-2
 enum-known-parsed-2 c = search needs
@@ -34,8 +35,10 @@ is-state-requires c κs =
     let args· = c .before .before .before .before .before .before .before .before .args in
     let parse· = c .before .before .before .parse in
     let parsed2· = c .before .parsed2 in
-    let f = guard-found (args· .text .now) (reading (args· .text .now)) (parse· .result) (parse· .last .1 .0) (parse· .last .1 .1 .0) (parse· .ensures) (parsed2· .given .0 .0) (parsed2· .given .1) in
-    let few : parsed2· .given .0 .0 .flags ≤ flagCeiling = read-begins (args· .text .now) (parsed2· .given .0 .0) (parse· .last .1 .0) (parse· .last .1 .1 .0) f .few in
+    let f = guard-found (args· .text .now) (reading (args· .text .now)) (parse· .result) (parse· .last .1 .0) (parse· .last .1 .1 .0) (parse· .ensures)
+    (parsed2· .given .0 .0) (parsed2· .given .1) in
+    let few : parsed2· .given .0 .0 .flags ≤ flagCeiling = read-begins (args· .text .now) (parsed2· .given .0 .0) (parse· .last .1 .0)
+    (parse· .last .1 .1 .0) f .few in
     omega arith
 
 returns-2 : tie.Need-returns-2
@@ -45,15 +48,18 @@ returns-2 c =
     let parsed2· = c .before .before .before .parsed2 in
     let is-state· = c .before .is-state in
     let if1· = c .if1 in
-    let f = guard-found (args· .text .now) (reading (args· .text .now)) (parse· .result) (parse· .last .1 .0) (parse· .last .1 .1 .0) (parse· .ensures) (parsed2· .given .0 .0) (parsed2· .given .1) in
-    lists-no-state (args· .text .now) (args· .start) (args· .out .now) (parsed2· .given .0 .0) (parse· .last .1 .0) (parse· .last .1 .1 .0) f (sym (is-state· .ensures) ∙ not-true (is-state· .result) (if1· .taken))
+    let f = guard-found (args· .text .now) (reading (args· .text .now)) (parse· .result) (parse· .last .1 .0) (parse· .last .1 .1 .0) (parse· .ensures)
+    (parsed2· .given .0 .0) (parsed2· .given .1) in
+    lists-no-state (args· .text .now) (args· .start) (args· .out .now) (parsed2· .given .0 .0) (parse· .last .1 .0) (parse· .last .1 .1 .0) f
+    (sym (is-state· .ensures) ∙ not-true (is-state· .result) (if1· .taken))
 
 slice-aggregate-search : tie.Need-slice-aggregate-search
 slice-aggregate-search c =
     let args· = c .before .before .before .before .before .before .before .before .before .before .before .args in
     let parse· = c .before .before .before .before .before .before .parse in
     let parsed2· = c .before .before .before .before .parsed2 in
-    sym ((guard-found (args· .text .now) (reading (args· .text .now)) (parse· .result) (parse· .last .1 .0) (parse· .last .1 .1 .0) (parse· .ensures) (parsed2· .given .0 .0) (parsed2· .given .1)) .read .room)
+    sym ((guard-found (args· .text .now) (reading (args· .text .now)) (parse· .result) (parse· .last .1 .0) (parse· .last .1 .1 .0) (parse· .ensures)
+    (parsed2· .given .0 .0) (parsed2· .given .1)) .read .room)
 
 search-requires : tie.Need-search-requires
 search-requires c κs =
@@ -62,8 +68,10 @@ search-requires c κs =
     let parsed2· = c .before .before .before .before .before .parsed2 in
     let is-state· = c .before .before .before .is-state in
     let if1· = c .before .before .if1 in
-    let f = guard-found (args· .text .now) (reading (args· .text .now)) (parse· .result) (parse· .last .1 .0) (parse· .last .1 .1 .0) (parse· .ensures) (parsed2· .given .0 .0) (parsed2· .given .1) in
-    lists-searchable (args· .text .now) (args· .start) (args· .out .now) (parsed2· .given .0 .0) (parse· .last .1 .0) (parse· .last .1 .1 .0) f (search needs) (sym (is-state· .ensures) ∙ not-false (is-state· .result) (if1· .left))
+    let f = guard-found (args· .text .now) (reading (args· .text .now)) (parse· .result) (parse· .last .1 .0) (parse· .last .1 .1 .0) (parse· .ensures)
+    (parsed2· .given .0 .0) (parsed2· .given .1) in
+    lists-searchable (args· .text .now) (args· .start) (args· .out .now) (parsed2· .given .0 .0) (parse· .last .1 .0) (parse· .last .1 .1 .0) f
+    (search needs) (sym (is-state· .ensures) ∙ not-false (is-state· .result) (if1· .left))
 
 same-length : tie.Need-same-length
 same-length c = search needs
@@ -76,8 +84,10 @@ returns-3 c =
     let is-state· = c .before .before .before .before .before .before .is-state in
     let if1· = c .before .before .before .before .before .if1 in
     let search· = c .before .before .search in
-    let f = guard-found (args· .text .now) (reading (args· .text .now)) (parse· .result) (parse· .last .1 .0) (parse· .last .1 .1 .0) (parse· .ensures) (parsed2· .given .0 .0) (parsed2· .given .1) in
-    lists-gaps (args· .text .now) (args· .start) (args· .out .now) (parsed2· .given .0 .0) (parse· .last .1 .0) (parse· .last .1 .1 .0) f (sym (is-state· .ensures) ∙ not-false (is-state· .result) (if1· .left)) (search· .result) (search· .last .1 .1 .1 .1 .1 .0) (search· .ensures)
+    let f = guard-found (args· .text .now) (reading (args· .text .now)) (parse· .result) (parse· .last .1 .0) (parse· .last .1 .1 .0) (parse· .ensures)
+    (parsed2· .given .0 .0) (parsed2· .given .1) in
+    lists-gaps (args· .text .now) (args· .start) (args· .out .now) (parsed2· .given .0 .0) (parse· .last .1 .0) (parse· .last .1 .1 .0) f
+    (sym (is-state· .ensures) ∙ not-false (is-state· .result) (if1· .left)) (search· .result) (search· .last .1 .1 .1 .1 .1 .0) (search· .ensures)
 
 pub list-spec : {M : Type 1} → statement M
 list-spec =

@@ -26,8 +26,14 @@ triplet-row-requires c κs =
     let loop-test· = c .before .loop-test in
     let pre· = c .before .before .before .before .before .pre in
     let loop· = c .before .before .loop in
-    let args· = c .before .before .before .before .before .args in
-    (omega arith, omega arith, named-below _ _ _ (pre· .0 .0) (pre· .1 .0 .ys _ (loop-test· .taken)), named-below _ _ _ (pre· .0 .0) (pre· .1 .0 .zs _ (loop-test· .taken)), rw (loop· .inv .0 .long) (le-trans (mul-le-mul-right (args· .width) (omega arith)) (pre· .0 .3)))
+    let args· = c .before .before .before .before .before .args in (
+      omega arith,
+      omega arith,
+      named-below _ _ _ (pre· .0 .0) (pre· .1 .0 .ys _ (loop-test· .taken)),
+      named-below _ _ _ (pre· .0 .0)
+          (pre· .1 .0 .zs _ (loop-test· .taken)),
+      rw (loop· .inv .0 .long) (le-trans (mul-le-mul-right (args· .width) (omega arith)) (pre· .0 .3)),
+    )
 
 add-j : tie.Need-add-j Inv-loop μ-loop
 add-j c = record { fits = omega arith }

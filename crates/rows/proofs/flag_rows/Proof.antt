@@ -76,7 +76,8 @@ returns c =
     let loop· = c .before .loop in
     let args· = c .before .before .before .before .before .before .before .args in
     let true-row· = c .before .before .before .before .true-row in
-    let e : loop· .i ≡ args· .n = omega arith in let f = loop· .inv .0 in record { long = f .long ∙ true-row· .ensures .long; right = record { top = f .top; flags = λ s j h p q. f .flags s j h p (rw e q) } }
+    let e : loop· .i ≡ args· .n = omega arith in let f = loop· .inv .0 in record
+    { long = f .long ∙ true-row· .ensures .long; right = record { top = f .top; flags = λ s j h p q. f .flags s j h p (rw e q) } }
 
 pub flag-rows-spec : {M : Type 1} → statement M
 flag-rows-spec =

@@ -55,8 +55,11 @@ loop-again c =
     let loop· = c .before .before .before .loop in
     let loop-test· = c .before .before .loop-test in
     let pre· = c .before .before .before .before .pre in
-    let args· = c .before .before .before .before .args in
-    (row-worked (λ a b. bitOr (bitXor a (args· .ty)) (bitXor b (args· .tz))) _ _ _ _ _ (args· .width) _ (loop· .inv .0) (loop-test· .taken) pre·, omega arith)
+    let args· = c .before .before .before .before .args in (
+      row-worked (λ a b. bitOr (bitXor a (args· .ty)) (bitXor b (args· .tz))) _ _ _ _ _ (args· .width) _ (loop· .inv .0) (loop-test· .taken) pre·,
+      omega
+          arith,
+    )
 
 same-length : tie.Need-same-length Inv-loop μ-loop
 same-length c = c .before .loop .inv .0 .long

@@ -43,7 +43,8 @@ RowOf op rows x y z width after = RowMade rows x width (λ w r. r ≡ op (getD r
 pub record TripletMade (xs : List ℕ) (j : ℕ) (rows : List ℕ) (width : ℕ) (after : List ℕ) : Type 0 where
   pub long : length after ≡ length rows
   pub made : (s : ℕ) → s < wordBits * width
-      → inRow after width s (tripletVariable (suc j)) ≡ gate (kindAt xs j) (literalValue (inRow rows width s) (yAt xs j)) (literalValue (inRow rows width s) (zAt xs j))
+      → inRow after width s (tripletVariable (suc j)) ≡ gate (kindAt xs j) (literalValue (inRow rows width s) (yAt xs j))
+      (literalValue (inRow rows width s) (zAt xs j))
   pub kept : (s v : ℕ) → s < wordBits * width → v < tripletVariable (suc j) → inRow after width s v ≡ inRow rows width s v
 
 -- the rows of true and of n flags are right, in every state

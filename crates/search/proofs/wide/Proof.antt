@@ -23,8 +23,16 @@ slice-aggregate-walk-2 c = search needs
 walk-requires : tie.Need-walk-requires
 walk-requires c κs =
     let pre· = c .before .before .before .before .before .before .before .before .pre in
-    let flag-rows· = c .before .before .before .before .flag-rows in
-    ((pre· .0, rows-all _ (wordFlags + widest) _ _ _ (pre· .1) (omega arith) (omega arith) (flag-rows· .ensures), stretch-all _ _ (pre· .0 .flags) (omega arith), omega arith), (pre· .2, omega arith))
+    let flag-rows· = c .before .before .before .before .flag-rows in (
+      (
+        pre· .0,
+        rows-all _ (wordFlags + widest) _ _ _ (pre· .1) (omega arith) (omega arith) (flag-rows· .ensures),
+        stretch-all _ _ (pre· .0 .flags)
+            (omega arith),
+        omega arith,
+      ),
+      (pre· .2, omega arith),
+    )
 
 same-length : tie.Need-same-length
 same-length c = search needs

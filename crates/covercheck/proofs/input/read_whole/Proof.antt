@@ -61,8 +61,14 @@ loop-again : tie.Need-loop-again Inv-loop μ-loop
 loop-again c =
     let loop· = c .before .before .before .before .before .before .before .before .before .loop in
     let got· = c .before .before .before .before .before .before .read-some in
-    let moved· = c .before .before .moved in
-    (search needs, omega (arith, moved-on (loop· .into) (loop· .done) (moved· .given .0 .0) (got· .result) (moved· .given .1) (got· .ensures) (loop· .inv .1)))
+    let moved· = c .before .before .moved in (
+      search needs,
+      omega (
+        arith,
+        moved-on (loop· .into) (loop· .done) (moved· .given .0 .0) (got· .result) (moved· .given .1) (got· .ensures)
+            (loop· .inv .1),
+      ),
+    )
 
 same-length-3 : tie.Need-same-length-3 Inv-loop μ-loop
 same-length-3 c = search needs

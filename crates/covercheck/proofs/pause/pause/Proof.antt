@@ -79,7 +79,8 @@ abbrev Nanosleep : {M : Type 1} (𝓤 : URA M) (H : Heap 𝓤) (A : Atoms 𝓤) 
 Nanosleep 𝓤 H A mem run = tripleOf 𝓤 H A nanosleep.signature (nanosleep.spec 𝓤 H A mem run)
 
 -- a constant whose bound is shown by a proof
-big : {M : Type 1} {𝓤 : URA M} {H : Heap 𝓤} {A : Atoms 𝓤} {K : Type 0} {W : Given 𝓤 H A} {Γ : List (Item 𝓤)} {E : Env 𝓤 H} → K → {w : Width} {n : ℕ}
+big : {M : Type 1} {𝓤 : URA M} {H : Heap 𝓤} {A : Atoms 𝓤} {K : Type 0} {W : Given 𝓤 H A} {Γ : List (Item 𝓤)} {E : Env 𝓤 H} → K
+    → {w : Width} {n : ℕ}
     → Fits w n → Opd K W Γ E (intBig w n) (vint w n)
 big {𝓤 = 𝓤} t {w} {n} f = record { go = λ Kt h. via 𝓤 (Kt (vint w n)) h (guardI 𝓤 (Fits w n) (Kt (vint w n)) f) }
 
@@ -116,8 +117,10 @@ module _ {M : Type 1} (𝓤 : URA M) (H : Heap 𝓤) (A : Atoms 𝓤) (W : Given
 
   -- what `nanosleep`'s triple binds outside: the time asked at block b and the time left at block d, each at its lifetime
   abbrev to-nanosleep : ℕ → ℕ → GName → GName → ℕ → ℕ → Nanosleep 𝓤 H A at-mem run .Ghost
-  to-nanosleep α β γ δ b d =
-      (((α ∷ [], (β ∷ [], tt)), (fullShare, (fullShare, tt)), tt, (at-time b γ wait, (at-time d δ 0, tt)), (vptr b 0 ∷ [], (vptr d 0 ∷ [], tt))), tt)
+  to-nanosleep α β γ δ b d = (
+    ((α ∷ [], (β ∷ [], tt)), (fullShare, (fullShare, tt)), tt, (at-time b γ wait, (at-time d δ 0, tt)), (vptr b 0 ∷ [], (vptr d 0 ∷ [], tt))),
+    tt,
+  )
 
   -- the two references, lent for the call
   abbrev asked : ℕ → GName → ℕ → Fml
@@ -127,10 +130,12 @@ module _ {M : Type 1} (𝓤 : URA M) (H : Heap 𝓤) (A : Atoms 𝓤) (W : Given
   left β δ d = MutRef (named 1) (β ∷ []) R .own (at-time d δ 0) (vptr d 0 ∷ [])
 
   goes : (α β : ℕ) (γ δ : GName) (b d : ℕ)
-      → ent 𝓤 (sep 𝓤 (A .lft (α ∷ []) fullShare) (sep 𝓤 (A .lft (β ∷ []) fullShare) (sep 𝓤 (sem 𝓤 H A (asked α γ b)) (sem 𝓤 H A (left β δ d)))))
+      → ent 𝓤 (sep 𝓤 (A .lft (α ∷ []) fullShare) (sep 𝓤 (A .lft (β ∷ []) fullShare)
+      (sep 𝓤 (sem 𝓤 H A (asked α γ b)) (sem 𝓤 H A (left β δ d)))))
       (Nanosleep 𝓤 H A at-mem run .pre (to-nanosleep α β γ δ b d))
   goes α β γ δ b d =
-      qed W (‵ (flft (α ∷ []) fullShare) ∷ ‵ (flft (β ∷ []) fullShare) ∷ ‵ (asked α γ b) ∷ ‵ (left β δ d) ∷ []) ∵ nothing ! $ nothing ! $
+      qed W (‵ (flft (α ∷ []) fullShare) ∷ ‵ (flft (β ∷ []) fullShare) ∷ ‵ (asked α γ b) ∷ ‵ (left β δ d) ∷ []) ∵ nothing ! $
+      nothing ! $
       move ! (3 ∷ 0 ∷ []) $ join ! $ move ! (2 ∷ 0 ∷ []) $ join ! $ move ! (3 ∷ 1 ∷ []) $ join ! $ move ! (2 ∷ 0 ∷ []) $ join ! $
       move ! (1 ∷ 0 ∷ []) $ join ! $ frame ! $ done !
 
@@ -159,8 +164,10 @@ module _ {M : Type 1} (𝓤 : URA M) (H : Heap 𝓤) (A : Atoms 𝓤) (W : Given
         use1 W (raw (Nanosleep 𝓤 H A at-mem run .pre (to-nanosleep α β γ δ l₁ l₂))) (goes α β γ δ l₁ l₂) $
         calls-at ! fm (Nanosleep 𝓤 H A at-mem run) known (to-nanosleep α β γ δ l₁ l₂)
         (and-then ! (load ! (from ! (stop !)) (look ! 5 refl)) (and-then ! (load ! (from ! (stop !)) (look ! 3 refl)) (no-more !))) (λ w.
-        use1 W (later (some (λ (r : ℤ). ((‵ (flft (α ∷ []) fullShare) ⊛ (‵ (flft (β ∷ []) fullShare) ⊛ ‵ ftrue)) ⊛ ‵ (i32 .own r (w ∷ []))) ⊛
-        raw (ensured 𝓤 H A nanosleep.ended (nanosleep.clauses 𝓤 H A at-mem run) (α ∷ [], (β ∷ [], tt)) (at-time l₁ γ wait, (at-time l₂ δ 0, tt)) tt r))))
+        use1 W (later (some (λ (r : ℤ). ((‵ (flft (α ∷ []) fullShare) ⊛ (‵ (flft (β ∷ []) fullShare) ⊛ ‵ ftrue)) ⊛ ‵
+        (i32 .own r (w ∷ []))) ⊛
+        raw (ensured 𝓤 H A nanosleep.ended (nanosleep.clauses 𝓤 H A at-mem run) (α ∷ [], (β ∷ [], tt))
+        (at-time l₁ γ wait, (at-time l₂ δ 0, tt)) tt r))))
         (id⊢ 𝓤 _) $ await ! tt $ pick ! (λ r. split ! $ move ! (1 ∷ []) $ drop ! $ split ! $ move ! (1 ∷ []) $
         peeks ! i32 (Is i32) (shows 𝓤 H A i32) r (w ∷ []) (λ is.
         land ! (from ! (stop !)) (init ! 8 refl (sint-lawful 𝓤 H A W w32 .typed r _ is .0)) $ drop ! $
@@ -172,7 +179,8 @@ module _ {M : Type 1} (𝓤 : URA M) (H : Heap 𝓤) (A : Atoms 𝓤) (W : Given
         assigns ! (of-opd ! (unit-lit !)) (from ! (stop !)) (init ! 12 refl (tt, tt)) $
         returns ! (look ! 12 refl) $ forget ! 4 refl $ forget ! 6 refl $ forget ! 8 refl $ forget ! 12 refl $
         move ! (12 ∷ 13 ∷ []) $ free1 ! $ move ! (0 ∷ 11 ∷ []) $ free1 ! $ move ! (0 ∷ 9 ∷ []) $ free1 ! $
-        move ! (6 ∷ 7 ∷ []) $ free1 ! $ move ! (4 ∷ 5 ∷ []) $ free1 ! $ move ! (2 ∷ 3 ∷ []) $ free1 ! $ free0 ! $ keep ! [] $ by ! exits))))))))))))))
+        move ! (6 ∷ 7 ∷ []) $ free1 ! $ move ! (4 ∷ 5 ∷ []) $ free1 ! $ move ! (2 ∷ 3 ∷ []) $ free1 ! $ free0 ! $ keep ! [] $ by !
+        exits))))))))))))))
 
 module _ {M : Type 1} (𝓤 : URA M) (H : Heap 𝓤) (A : Atoms 𝓤) (W : Given 𝓤 H A) (mem : Memory → SProp 𝓤) (run : Routine → Fun 𝓤) where
   pause-walks : (C : Calls 𝓤 H) (Λ : Loops 𝓤 H) → FmC 𝓤 H (W .laws) C → Triple 𝓤 (C #libc·nanosleep) (Nanosleep 𝓤 H A mem run)
@@ -181,7 +189,8 @@ module _ {M : Type 1} (𝓤 : URA M) (H : Heap 𝓤) (A : Atoms 𝓤) (W : Given
       walked 𝓤 H A pause.ended stayed (pause.clauses 𝓤 H A mem run) (WpFn 𝓤 H C Λ code.function) (λ κs. tt) (λ κs. tt)
       (λ κs qs bounds a g are. qed W (raw _ ∷ []) ∵ keep ! [] $ by ! (walk 𝓤 H A W mem run C Λ fm known))
 
-pause-meets : {M : Type 1} (𝓤 : URA M) (H : Heap 𝓤) (A : Atoms 𝓤) → Given 𝓤 H A → (mem : Memory → SProp 𝓤) (run : Routine → Fun 𝓤) (𝓣 : Tables 𝓤 H)
+pause-meets : {M : Type 1} (𝓤 : URA M) (H : Heap 𝓤) (A : Atoms 𝓤) → Given 𝓤 H A → (mem : Memory → SProp 𝓤) (run : Routine → Fun 𝓤)
+    (𝓣 : Tables 𝓤 H)
     → Triple 𝓤 (𝓣 .C #libc·nanosleep) (Nanosleep 𝓤 H A mem run)
     → Meets 𝓤 H A pause.signature (WpFn 𝓤 H (𝓣 .C) (𝓣 .Λ) code.function) (pause.spec 𝓤 H A mem run)
 pause-meets 𝓤 H A W mem run 𝓣 known =

@@ -11,7 +11,8 @@ use Rattle.gaps.proofs.writing.write_row.Statement.{statement}
 use Rattle.gaps.proofs.writing.write_row.Tie as tie
 
 abbrev Inv-loop : tie.InvT-loop
-Inv-loop rows root n width base start from out₀ x t live words w₀ m₀ out w m = Stretch (since start (rowValue rows root n width base)) base (wordBits * words) from out₀ out (wordBits * w) m × (w ≤ words)
+Inv-loop rows root n width base start from out₀ x t live words w₀ m₀ out w m = Stretch (since start (rowValue rows root n width base)) base
+    (wordBits * words) from out₀ out (wordBits * w) m × (w ≤ words)
 
 abbrev μ-loop : tie.MeasureT-loop
 μ-loop rows root n width base start from out₀ x t live words w₀ m₀ out w m = words - w
@@ -51,7 +52,20 @@ add-gap c =
     let args· = c .before .before .before .before .before .before .before .args in
     let pre· = c .before .before .before .before .before .before .before .pre in
     let good· = c .before .before .before .before .before .before .before .good in
-    record { fits = omega (arith, loop-test· .taken, words-of· .ensures, words-within (args· .rows .now) (args· .root) (args· .n) (args· .width) (args· .base) (args· .start) (pre· .0 .1), rows-apart (args· .root / 2) (suc (args· .root / 2)) (args· .width) (omega arith), pre· .0, pre· .1, good·) }
+    record {
+      fits = omega (
+        arith,
+        loop-test· .taken,
+        words-of· .ensures,
+        words-within (args· .rows .now) (args· .root) (args· .n) (args· .width)
+            (args· .base) (args· .start) (pre· .0 .1),
+        rows-apart (args· .root / 2) (suc (args· .root / 2)) (args· .width) (omega arith),
+        pre· .0,
+        pre·
+            .1,
+        good·,
+      );
+    }
 
 mul-gap : tie.Need-mul-gap Inv-loop μ-loop
 mul-gap c =
@@ -60,7 +74,20 @@ mul-gap c =
     let args· = c .before .before .before .before .before .before .before .args in
     let pre· = c .before .before .before .before .before .before .before .pre in
     let good· = c .before .before .before .before .before .before .before .good in
-    record { fits = omega (arith, loop-test· .taken, words-of· .ensures, words-within (args· .rows .now) (args· .root) (args· .n) (args· .width) (args· .base) (args· .start) (pre· .0 .1), rows-apart (args· .root / 2) (suc (args· .root / 2)) (args· .width) (omega arith), pre· .0, pre· .1, good·) }
+    record {
+      fits = omega (
+        arith,
+        loop-test· .taken,
+        words-of· .ensures,
+        words-within (args· .rows .now) (args· .root) (args· .n) (args· .width)
+            (args· .base) (args· .start) (pre· .0 .1),
+        rows-apart (args· .root / 2) (suc (args· .root / 2)) (args· .width) (omega arith),
+        pre· .0,
+        pre·
+            .1,
+        good·,
+      );
+    }
 
 shared-slice-read-gap : tie.Need-shared-slice-read-gap Inv-loop μ-loop
 shared-slice-read-gap c =
@@ -69,7 +96,17 @@ shared-slice-read-gap c =
     let args· = c .before .before .before .before .before .before .before .before .args in
     let pre· = c .before .before .before .before .before .before .before .before .pre in
     let good· = c .before .before .before .before .before .before .before .before .good in
-    omega (arith, loop-test· .taken, words-of· .ensures, words-within (args· .rows .now) (args· .root) (args· .n) (args· .width) (args· .base) (args· .start) (pre· .0 .1), rows-apart (args· .root / 2) (suc (args· .root / 2)) (args· .width) (omega arith), pre· .0, pre· .1, good·)
+    omega (
+      arith,
+      loop-test· .taken,
+      words-of· .ensures,
+      words-within (args· .rows .now) (args· .root) (args· .n) (args· .width) (args· .base)
+          (args· .start) (pre· .0 .1),
+      rows-apart (args· .root / 2) (suc (args· .root / 2)) (args· .width) (omega arith),
+      pre· .0,
+      pre· .1,
+      good·,
+    )
 
 mul-at : tie.Need-mul-at Inv-loop μ-loop
 mul-at c =
@@ -78,7 +115,20 @@ mul-at c =
     let args· = c .before .before .before .before .before .before .before .before .args in
     let pre· = c .before .before .before .before .before .before .before .before .pre in
     let good· = c .before .before .before .before .before .before .before .before .good in
-    record { fits = omega (arith, loop-test· .taken, words-of· .ensures, words-within (args· .rows .now) (args· .root) (args· .n) (args· .width) (args· .base) (args· .start) (pre· .0 .1), rows-apart (args· .root / 2) (suc (args· .root / 2)) (args· .width) (omega arith), pre· .0, pre· .1, good·) }
+    record {
+      fits = omega (
+        arith,
+        loop-test· .taken,
+        words-of· .ensures,
+        words-within (args· .rows .now) (args· .root) (args· .n) (args· .width)
+            (args· .base) (args· .start) (pre· .0 .1),
+        rows-apart (args· .root / 2) (suc (args· .root / 2)) (args· .width) (omega arith),
+        pre· .0,
+        pre·
+            .1,
+        good·,
+      );
+    }
 
 add-at : tie.Need-add-at Inv-loop μ-loop
 add-at c =
@@ -87,7 +137,20 @@ add-at c =
     let args· = c .before .before .before .before .before .before .before .before .args in
     let pre· = c .before .before .before .before .before .before .before .before .pre in
     let good· = c .before .before .before .before .before .before .before .before .good in
-    record { fits = omega (arith, loop-test· .taken, words-of· .ensures, words-within (args· .rows .now) (args· .root) (args· .n) (args· .width) (args· .base) (args· .start) (pre· .0 .1), rows-apart (args· .root / 2) (suc (args· .root / 2)) (args· .width) (omega arith), pre· .0, pre· .1, good·) }
+    record {
+      fits = omega (
+        arith,
+        loop-test· .taken,
+        words-of· .ensures,
+        words-within (args· .rows .now) (args· .root) (args· .n) (args· .width)
+            (args· .base) (args· .start) (pre· .0 .1),
+        rows-apart (args· .root / 2) (suc (args· .root / 2)) (args· .width) (omega arith),
+        pre· .0,
+        pre·
+            .1,
+        good·,
+      );
+    }
 
 write-from-requires : tie.Need-write-from-requires Inv-loop μ-loop
 write-from-requires c κs =
@@ -96,8 +159,21 @@ write-from-requires c κs =
     let words-of· = c .before .before .before .before .words-of in
     let args· = c .before .before .before .before .before .before .before .before .before .args in
     let pre· = c .before .before .before .before .before .before .before .before .before .pre in
-    let good· = c .before .before .before .before .before .before .before .before .before .good in
-    (loop· .inv .0 .room, omega (arith, loop-test· .taken, words-of· .ensures, words-within (args· .rows .now) (args· .root) (args· .n) (args· .width) (args· .base) (args· .start) (pre· .0 .1), rows-apart (args· .root / 2) (suc (args· .root / 2)) (args· .width) (omega arith), pre· .0, pre· .1, good·))
+    let good· = c .before .before .before .before .before .before .before .before .before .good in (
+      loop· .inv .0 .room,
+      omega (
+        arith,
+        loop-test· .taken,
+        words-of· .ensures,
+        words-within (args· .rows .now) (args· .root) (args· .n) (args· .width)
+            (args· .base) (args· .start) (pre· .0 .1),
+        rows-apart (args· .root / 2) (suc (args· .root / 2)) (args· .width) (omega arith),
+        pre· .0,
+        pre·
+            .1,
+        good·,
+      ),
+    )
 
 enum-known-found : tie.Need-enum-known-found Inv-loop μ-loop
 enum-known-found c = search needs
@@ -120,7 +196,10 @@ returns c =
     let turn· = c .before .before .before .before .before .before .before .before .before .before .before .turn in
     let live-word· = c .before .before .before .before .before .before .before .before .before .before .live-word in
     let write-from· = c .before .before .before .before .write-from in
-    rw (← row-whole (args· .rows .now) (args· .root) (args· .n) (args· .width) (args· .base) (args· .start)) (rw (← ap (λ u. wordBits * u) (words-of· .ensures)) (stretch-stop _ _ _ _ _ _ _ _ (loop· .inv .0) wordBits _ _ _ _ (enum-told· .given .1) (omega arith) (rw (← row-word (args· .rows .now) (args· .root) (args· .n) (args· .width) (args· .base) (args· .start) (loop· .w) (turn· .result) (live-word· .result) (turn· .ensures) (live-word· .ensures) (omega arith)) (write-from· .ensures))))
+    rw (← row-whole (args· .rows .now) (args· .root) (args· .n) (args· .width) (args· .base) (args· .start))
+    (rw (← ap (λ u. wordBits * u) (words-of· .ensures)) (stretch-stop _ _ _ _ _ _ _ _ (loop· .inv .0) wordBits _ _ _ _ (enum-told· .given .1)
+    (omega arith) (rw (← row-word (args· .rows .now) (args· .root) (args· .n) (args· .width) (args· .base) (args· .start) (loop· .w)
+    (turn· .result) (live-word· .result) (turn· .ensures) (live-word· .ensures) (omega arith)) (write-from· .ensures))))
 
 add-w : tie.Need-add-w Inv-loop μ-loop
 add-w c = record { fits = omega arith }
@@ -135,8 +214,12 @@ loop-again c =
     let write-from· = c .before .before .before .before .before .write-from in
     let args· = c .before .before .before .before .before .before .before .before .before .before .before .before .before .before .before .args in
     let turn· = c .before .before .before .before .before .before .before .before .before .before .before .before .turn in
-    let live-word· = c .before .before .before .before .before .before .before .before .before .before .before .live-word in
-    (rw (next (loop· .w)) (stretch-more _ _ _ _ _ _ _ _ (loop· .inv .0) wordBits _ _ _ (found· .given .1) (omega arith) (write-from· .kept .1 .1 .1 .1 .0) (rw (← row-word (args· .rows .now) (args· .root) (args· .n) (args· .width) (args· .base) (args· .start) (loop· .w) (turn· .result) (live-word· .result) (turn· .ensures) (live-word· .ensures) (omega arith)) (write-from· .ensures))), omega arith)
+    let live-word· = c .before .before .before .before .before .before .before .before .before .before .before .live-word in (
+      rw (next (loop· .w)) (stretch-more _ _ _ _ _ _ _ _ (loop· .inv .0) wordBits _ _ _ (found· .given .1) (omega arith) (write-from· .kept .1 .1 .1 .1 .0)
+          (rw (← row-word (args· .rows .now) (args· .root) (args· .n) (args· .width) (args· .base) (args· .start) (loop· .w) (turn· .result)
+          (live-word· .result) (turn· .ensures) (live-word· .ensures) (omega arith)) (write-from· .ensures))),
+      omega arith,
+    )
 
 same-length-2 : tie.Need-same-length-2 Inv-loop μ-loop
 same-length-2 c =
@@ -148,7 +231,8 @@ returns-2 c =
     let args· = c .before .before .before .before .before .before .before .args in
     let words-of· = c .before .before .words-of in
     let loop· = c .before .loop in
-    rw (← row-whole (args· .rows .now) (args· .root) (args· .n) (args· .width) (args· .base) (args· .start)) (rw (← ap (λ u. wordBits * u) (words-of· .ensures)) (stretch-done _ _ _ _ _ _ _ _ (loop· .inv .0) (omega arith)))
+    rw (← row-whole (args· .rows .now) (args· .root) (args· .n) (args· .width) (args· .base) (args· .start))
+    (rw (← ap (λ u. wordBits * u) (words-of· .ensures)) (stretch-done _ _ _ _ _ _ _ _ (loop· .inv .0) (omega arith)))
 
 pub write-row-spec : {M : Type 1} → statement M
 write-row-spec =

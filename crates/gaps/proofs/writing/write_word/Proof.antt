@@ -21,7 +21,8 @@ loop-holds c =
     rest-start (args· .word) (args· .base) (args· .from) (args· .out .now) (pre· .0) (search needs)
 
 -- the lowest bit of what is left lies within the word
-within : (c : tie.In-loop Inv-loop μ-loop) → c .before .loop .at + trailingZeros wordBits (c .before .loop .rest) + 1 ≤ c .before .before .args .base + wordBits
+within : (c : tie.In-loop Inv-loop μ-loop) → c .before .loop .at + trailingZeros wordBits (c .before .loop .rest) + 1 ≤ c .before .before .args .base +
+    wordBits
 within c = omega (arith, rest-within _ _ _ _ _ _ _ _ (c .before .loop .inv) (c .loop-test .taken))
 
 cast-s : tie.Need-cast-s Inv-loop μ-loop

@@ -31,7 +31,8 @@ returns c =
     let pre· = c .before .before .before .before .before .pre in
     let search· = c .before .before .search in
     let verdict-of· = c .verdict-of in
-    fully-found (args· .triplets .now) (args· .count) (args· .flags) (args· .root) (pre·) (search· .result) (verdict-of· .result) (search· .ensures) refl
+    fully-found (args· .triplets .now) (args· .count) (args· .flags) (args· .root) (pre·) (search· .result) (verdict-of· .result) (search· .ensures)
+    refl
     (verdict-of· .ensures)
 
 pub by-tables-spec : {M : Type 1} → statement M

@@ -35,7 +35,8 @@ slice-aggregate-answer c =
     let args· = c .before .before .before .before .before .before .before .before .before .before .args in
     let parse· = c .before .before .before .before .parse in
     let parsed2· = c .before .before .parsed2 in
-    sym ((guard-found (args· .text .now) (reading (args· .text .now)) (parse· .result) (parse· .last .1 .0) (parse· .last .1 .1 .0) (parse· .ensures) (parsed2· .given .0 .0) (parsed2· .given .1)) .read .room)
+    sym ((guard-found (args· .text .now) (reading (args· .text .now)) (parse· .result) (parse· .last .1 .0) (parse· .last .1 .1 .0) (parse· .ensures)
+    (parsed2· .given .0 .0) (parsed2· .given .1)) .read .room)
 
 answer-requires : tie.Need-answer-requires
 answer-requires c κs =
@@ -58,7 +59,8 @@ returns-3 c =
     let parse· = c .before .before .before .parse in
     let text = args· .text .now in
     let f = parsed· .given .0 .0 in
-    refused-too text (args· .depth) (omega (arith, if1· .left)) (omega (arith, if2· .left)) f (refusal-found text (reading text) (parse· .result) (parse· .last .1 .0) (parse· .last .1 .1 .0) (parse· .ensures) f (parsed· .given .1))
+    refused-too text (args· .depth) (omega (arith, if1· .left)) (omega (arith, if2· .left)) f
+    (refusal-found text (reading text) (parse· .result) (parse· .last .1 .0) (parse· .last .1 .1 .0) (parse· .ensures) f (parsed· .given .1))
 
 returns-4 : tie.Need-returns-4
 returns-4 c =

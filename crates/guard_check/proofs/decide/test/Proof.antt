@@ -29,7 +29,8 @@ returns c =
     let pre· = c .before .before .before .before .pre in
     let equal· = c .before .equal in
     let if1· = c .if1 in
-    tested-true (args· .triplets .now) (args· .count) (args· .flags) (args· .depth) (args· .flag) (args· .of .now) (pre· .0 .classes) (pre· .1 .0) (sym (equal· .ensures) ∙ if1· .taken)
+    tested-true (args· .triplets .now) (args· .count) (args· .flags) (args· .depth) (args· .flag) (args· .of .now) (pre· .0 .classes) (pre· .1 .0)
+    (sym (equal· .ensures) ∙ if1· .taken)
 
 equal-requires-2 : tie.Need-equal-requires-2
 equal-requires-2 c κs =
@@ -45,7 +46,8 @@ returns-2 c =
     let if1· = c .before .before .before .if1 in
     let equal2· = c .before .equal2 in
     let if2· = c .if2 in
-    tested-false (args· .triplets .now) (args· .count) (args· .flags) (args· .depth) (args· .flag) (args· .of .now) (pre· .0 .classes) (pre· .1 .0) (sym (equal· .ensures) ∙ if1· .left) (sym (equal2· .ensures) ∙ if2· .taken)
+    tested-false (args· .triplets .now) (args· .count) (args· .flags) (args· .depth) (args· .flag) (args· .of .now) (pre· .0 .classes) (pre· .1 .0)
+    (sym (equal· .ensures) ∙ if1· .left) (sym (equal2· .ensures) ∙ if2· .taken)
 
 add-size : tie.Need-add-size
 add-size c =
@@ -81,20 +83,24 @@ join-requires-2 c κs =
 
 saturate-requires-2 : tie.Need-saturate-requires-2
 saturate-requires-2 c κs =
-    let pre· = c .before .before .before .before .before .before .before .before .before .before .before .before .before .before .before .before .before .before .pre in
+    let pre· = c .before .before .before .before .before .before .before .before .before .before .before .before .before .before .before .before .before
+    .before .pre in
     let join2· = c .before .join2 in
     record { readable = pre· .0 .readable; flags = pre· .0 .flags; classes = join2· .ensures .classes }
 
 returns-3 : tie.Need-returns-3
 returns-3 c =
-    let args· = c .before .before .before .before .before .before .before .before .before .before .before .before .before .before .before .before .before .before .before .args in
+    let args· = c .before .before .before .before .before .before .before .before .before .before .before .before .before .before .before .before .before
+    .before .before .args in
     let join· = c .before .before .before .before .before .before .before .before .before .join in
     let saturate· = c .before .before .before .before .before .before .before .saturate in
     let join2· = c .before .before .join2 in
     let saturate2· = c .saturate2 in
     let is-contradictory· = c .before .before .before .before .before .is-contradictory in
     let if3· = c .before .before .before .before .if3 in
-    tested-high (args· .triplets .now) (args· .count) (args· .flags) (args· .depth) (args· .flag) (args· .of .now) (join· .last .0) (saturate· .last .0) (join· .ensures) (saturate· .ensures) (join2· .last .0) (saturate2· .last .0) (sym (is-contradictory· .ensures) ∙ if3· .taken) (join2· .ensures) (saturate2· .ensures)
+    tested-high (args· .triplets .now) (args· .count) (args· .flags) (args· .depth) (args· .flag) (args· .of .now) (join· .last .0)
+    (saturate· .last .0) (join· .ensures) (saturate· .ensures) (join2· .last .0) (saturate2· .last .0)
+    (sym (is-contradictory· .ensures) ∙ if3· .taken) (join2· .ensures) (saturate2· .ensures)
 
 returns-4 : tie.Need-returns-4
 returns-4 c =
@@ -103,7 +109,8 @@ returns-4 c =
     let saturate· = c .before .before .before .saturate in
     let is-contradictory· = c .before .is-contradictory in
     let if3· = c .if3 in
-    tested-low (args· .triplets .now) (args· .count) (args· .flags) (args· .depth) (args· .flag) (args· .of .now) (join· .last .0) (saturate· .last .0) (join· .ensures) (saturate· .ensures) (sym (is-contradictory· .ensures) ∙ if3· .left)
+    tested-low (args· .triplets .now) (args· .count) (args· .flags) (args· .depth) (args· .flag) (args· .of .now) (join· .last .0)
+    (saturate· .last .0) (join· .ensures) (saturate· .ensures) (sym (is-contradictory· .ensures) ∙ if3· .left)
 
 pub test-spec : {M : Type 1} → statement M
 test-spec =

@@ -17,21 +17,24 @@ mul-number-of : tie.Need-mul-number-of
 mul-number-of c =
     let named· = c .before .named in
     let pre· = c .before .before .before .pre in
-    let fits : (named· .given .0 .0 ≤ textCeiling) × (named· .given .0 .1 .0 ≤ codeCeiling) = subst (λ (v : Named). NamedFits v) (named· .given .1) pre· in
+    let fits : (named· .given .0 .0 ≤ textCeiling) × (named· .given .0 .1 .0 ≤ codeCeiling) = subst (λ (v : Named). NamedFits v) (named· .given .1)
+    pre· in
     omega (arith, fits .0, fits .1)
 
 add-number-of : tie.Need-add-number-of
 add-number-of c =
     let named· = c .before .named in
     let pre· = c .before .before .before .pre in
-    let fits : (named· .given .0 .0 ≤ textCeiling) × (named· .given .0 .1 .0 ≤ codeCeiling) = subst (λ (v : Named). NamedFits v) (named· .given .1) pre· in
+    let fits : (named· .given .0 .0 ≤ textCeiling) × (named· .given .0 .1 .0 ≤ codeCeiling) = subst (λ (v : Named). NamedFits v) (named· .given .1)
+    pre· in
     omega (arith, fits .0, fits .1)
 
 number-of-requires : tie.Need-number-of-requires
 number-of-requires c κs =
     let named· = c .before .named in
     let pre· = c .before .before .before .pre in
-    let fits : (named· .given .0 .0 ≤ textCeiling) × (named· .given .0 .1 .0 ≤ codeCeiling) = subst (λ (v : Named). NamedFits v) (named· .given .1) pre· in
+    let fits : (named· .given .0 .0 ≤ textCeiling) × (named· .given .0 .1 .0 ≤ codeCeiling) = subst (λ (v : Named). NamedFits v) (named· .given .1)
+    pre· in
     (omega arith, omega (arith, fits .0, fits .1))
 
 enum-known-named-2 : tie.Need-enum-known-named-2

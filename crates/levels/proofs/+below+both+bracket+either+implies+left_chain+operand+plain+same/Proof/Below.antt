@@ -53,7 +53,8 @@ below-returns-2 t c =
     let a = args· in
     subst (λ (x : Connective). Says (plain (belowOf (signOf x) (operandsAt (a .brackets)))) (a .brackets) (tighter (signOf x)) (a .text .now)
     (a .at .now) (a .codes .now)
-    (a .out .now) (a .wait .now) (both· .result) (both· .last .1 .0) (both· .last .1 .1 .1 .0) (both· .last .1 .1 .1 .1 .0) (both· .last .1 .1 .1 .1 .1 .0))
+    (a .out .now) (a .wait .now) (both· .result) (both· .last .1 .0) (both· .last .1 .1 .1 .0) (both· .last .1 .1 .1 .1 .0)
+    (both· .last .1 .1 .1 .1 .1 .0))
     (sym (enum-told2· .given .1)) (both· .ensures)
 
 pub below-returns-3 : (t : ℕ) → below-lts.Need-returns-3 (below-in t) (below-at t) below-fn.Post

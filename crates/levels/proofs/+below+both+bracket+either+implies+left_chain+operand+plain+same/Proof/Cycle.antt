@@ -209,14 +209,16 @@ abbrev pub same-in : ℕ → same-lts.Claims
 same-in t = (implies-below t, implies-fn.Post, sign-follows-reads.Asked, sign-follows-reads.Learnt, left-chain-below t, left-chain-fn.Post)
 
 abbrev pub implies-Inv-loop : implies-lts.InvT-loop
-implies-Inv-loop text at₀ brackets codes₀ out₀ wait₀ base left last₀ at codes out wait last = Up tokens.implies brackets text base last₀ at₀ codes₀
+implies-Inv-loop text at₀ brackets codes₀ out₀ wait₀ base left last₀ at codes out wait last = Up tokens.implies brackets text base last₀ at₀
+    codes₀
     out₀ wait₀ last at codes out wait
 
 abbrev pub implies-μ-loop : implies-lts.MeasureT-loop
 implies-μ-loop text at₀ brackets codes₀ out₀ wait₀ base left last₀ at codes out wait last = length text - getD at 1 0
 
 abbrev pub implies-Inv-loop2 : implies-lts.InvT-loop2
-implies-Inv-loop2 text at₀ brackets codes out₀ wait base left last₀ at out last = Down tokens.implies brackets text base last₀ at₀ codes out₀ wait last at out
+implies-Inv-loop2 text at₀ brackets codes out₀ wait base left last₀ at out last = Down tokens.implies brackets text base last₀ at₀ codes out₀ wait
+    last at out
 
 abbrev pub implies-μ-loop2 : implies-lts.MeasureT-loop2
 implies-μ-loop2 text at₀ brackets codes out₀ wait base left last₀ at out last = getD at 7 0

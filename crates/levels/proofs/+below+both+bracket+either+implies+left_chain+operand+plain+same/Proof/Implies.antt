@@ -53,7 +53,8 @@ implies-loop-holds t c =
     let either· = c .before .before .before .either in
     let first· = c .before .first in
     let pre· = c .before .before .before .before .before .before .before .before .before .before .pre in
-    up-first (either· .ensures .still _ (first· .given .1) .waits) (waits-on (pre· .1 .waits) (either· .ensures) (first· .given .1)) (either· .ensures .rooms)
+    up-first (either· .ensures .still _ (first· .given .1) .waits) (waits-on (pre· .1 .waits) (either· .ensures) (first· .given .1))
+    (either· .ensures .rooms)
 
 pub implies-past-sign-requires : (t : ℕ) → implies-lts.Need-past-sign-requires (implies-in t)
     (implies-at t) implies-fn.Post implies-Inv-loop implies-μ-loop implies-Inv-loop2 implies-μ-loop2

@@ -73,7 +73,8 @@ left-chain-below-requires t c κs =
           (waits-past (loop· .inv .waits (pre· .1 .waits)) (past-sign· .ensures .kept .waits) q) (pre· .1 .brackets),
     )
 
-pub left-chain-returns-2 : (t : ℕ) → left-chain-lts.Need-returns-2 (left-chain-in t) (left-chain-at t) left-chain-fn.Post left-chain-Inv-loop left-chain-μ-loop
+pub left-chain-returns-2 : (t : ℕ) → left-chain-lts.Need-returns-2 (left-chain-in t) (left-chain-at t) left-chain-fn.Post left-chain-Inv-loop
+    left-chain-μ-loop
 left-chain-returns-2 t c =
     let sign-follows· = c .before .before .before .before .before .before .before .before .before .before .before .before .sign-follows in
     let if1· = c .before .before .before .before .before .before .before .before .before .before .before .if1 in
@@ -83,7 +84,8 @@ left-chain-returns-2 t c =
     let loop· = c .before .before .before .before .before .before .before .before .before .before .before .before .before .before .loop in
     let below· = c .before .before .below in
     let q = (passed (sym (sign-follows· .ensures) ∙ if1· .taken) (past-sign· .ensures) (enum-told· .given .1)) in
-    λ p₀ codes₀ out₀ wait₀ f s. says-refused (enum-told3· .given .1) (operand-refused (carried (loop· .inv) p₀ codes₀ out₀ f) q (below· .ensures)
+    λ p₀ codes₀ out₀ wait₀ f s. says-refused (enum-told3· .given .1)
+    (operand-refused (carried (loop· .inv) p₀ codes₀ out₀ f) q (below· .ensures)
     (enum-told3· .given .1)) (below· .ensures .rooms)
 
 pub left-chain-joined-requires : (t : ℕ) → left-chain-lts.Need-joined-requires (left-chain-in t)
@@ -104,7 +106,8 @@ left-chain-joined-requires t c κs =
     (enum-told· .given .1)) (below· .ensures) (next· .given .1) in
     ((below· .ensures .rooms .triplets, below· .ensures .rooms .numbers), (a .0, a .1))
 
-pub left-chain-loop-less : (t : ℕ) → left-chain-lts.Need-loop-less (left-chain-in t) (left-chain-at t) left-chain-fn.Post left-chain-Inv-loop left-chain-μ-loop
+pub left-chain-loop-less : (t : ℕ) → left-chain-lts.Need-loop-less (left-chain-in t) (left-chain-at t) left-chain-fn.Post left-chain-Inv-loop
+    left-chain-μ-loop
 left-chain-loop-less t c =
     let loop· = c .before .before .before .before .before .before .before .before .before .before .before .before .before .before .before .before
     .before .before .loop in
@@ -138,7 +141,8 @@ left-chain-loop-again t c =
     on-more (loop· .inv) (passed (sym (sign-follows· .ensures) ∙ if1· .taken) (past-sign· .ensures) (enum-told· .given .1))
     (past-sign· .ensures .kept .waits) (below· .ensures) (next· .given .1) (joined· .ensures)
 
-pub left-chain-returns-3 : (t : ℕ) → left-chain-lts.Need-returns-3 (left-chain-in t) (left-chain-at t) left-chain-fn.Post left-chain-Inv-loop left-chain-μ-loop
+pub left-chain-returns-3 : (t : ℕ) → left-chain-lts.Need-returns-3 (left-chain-in t) (left-chain-at t) left-chain-fn.Post left-chain-Inv-loop
+    left-chain-μ-loop
 left-chain-returns-3 t c =
     let loop· = c .before .before .before .loop in
     let sign-follows· = c .before .sign-follows in

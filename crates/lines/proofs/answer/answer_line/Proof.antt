@@ -29,7 +29,8 @@ returns c =
     let put-line· = c .put-line in
     let enum-told· = c .before .before .before .enum-told in
     let question-of· = c .before .before .before .before .before .question-of in
-    answers (args· .number) (args· .line .now) Malformed (Refused (record { number = 12; place = 0 })) (args· .out .now) (put-line· .last .0) (put-line· .result) (sym (enum-told· .given .1) ∙ question-of· .ensures) refl (put-line· .ensures)
+    answers (args· .number) (args· .line .now) Malformed (Refused (record { number = 12; place = 0 })) (args· .out .now) (put-line· .last .0)
+    (put-line· .result) (sym (enum-told· .given .1) ∙ question-of· .ensures) refl (put-line· .ensures)
 
 sub-text : tie.Need-sub-text
 sub-text c =
@@ -61,7 +62,8 @@ returns-2 c =
     let check· = c .before .before .check in
     let put-line2· = c .put-line2 in
     let question-of· = c .before .before .before .before .before .before .before .question-of in
-    answers-guard (args· .number) (args· .line .now) (question· .given .0 .0) (question· .given .0 .1 .0) (check· .result) (args· .out .now) (put-line2· .last .0) (put-line2· .result) (sym (question· .given .1) ∙ question-of· .ensures) (check· .ensures) (put-line2· .ensures)
+    answers-guard (args· .number) (args· .line .now) (question· .given .0 .0) (question· .given .0 .1 .0) (check· .result) (args· .out .now)
+    (put-line2· .last .0) (put-line2· .result) (sym (question· .given .1) ∙ question-of· .ensures) (check· .ensures) (put-line2· .ensures)
 
 pub answer-line-spec : {M : Type 1} → statement M
 answer-line-spec =

@@ -23,7 +23,8 @@ same-length c = search needs
 returns : tie.Need-returns
 unfolding bytes
 returns c =
-    let args· = c .before .before .before .before .before .before .before .before .before .before .before .before .before .before .before .before .before .before .args in
+    let args· = c .before .before .before .before .before .before .before .before .before .before .before .before .before .before .before .before .before
+    .before .args in
     let put-number· = c .before .before .before .before .before .before .before .before .before .before .before .before .before .before .put-number in
     let put· = c .before .before .before .before .before .before .before .before .before .before .put in
     let put-verdict· = c .before .before .before .before .before .before .put-verdict in

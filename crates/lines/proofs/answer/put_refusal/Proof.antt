@@ -27,7 +27,8 @@ same-length c = search needs
 returns : tie.Need-returns
 unfolding bytes
 returns c =
-    let args· = c .before .before .before .before .before .before .before .before .before .before .before .before .before .before .before .before .before .before .args in
+    let args· = c .before .before .before .before .before .before .before .before .before .before .before .before .before .before .before .before .before
+    .before .args in
     let put-all· = c .before .before .before .before .before .before .before .before .before .before .before .before .before .before .put-all in
     let put-number· = c .before .before .before .before .before .before .before .before .before .before .put-number in
     let put· = c .before .before .before .before .before .before .put in

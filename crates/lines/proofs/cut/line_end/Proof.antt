@@ -40,8 +40,12 @@ loop-again c =
     let args· = c .before .before .before .before .args in
     let loop· = c .before .before .before .loop in
     let loop-test· = c .before .before .loop-test in
-    let if1· = c .if1 in
-    (passed-more (args· .input .now) (args· .start) (loop· .at) (loop· .inv .1) (loop-test· .taken) (if1· .left) (loop· .inv .0), omega arith, omega arith)
+    let if1· = c .if1 in (
+      passed-more (args· .input .now) (args· .start) (loop· .at) (loop· .inv .1) (loop-test· .taken) (if1· .left) (loop· .inv .0),
+      omega arith,
+      omega
+          arith,
+    )
 
 returns-2 : tie.Need-returns-2 Inv-loop μ-loop
 returns-2 c =

@@ -60,23 +60,46 @@ put-requires-2 c κs =
     let put-all· = c .before .before .before .put-all in
     let pre· = c .before .before .before .before .before .before .before .before .before .before .before .before .before .before .before .pre in
     let args· = c .before .before .before .before .before .before .before .before .before .before .before .before .before .before .before .args in
-    omega (arith, put· .ensures .next, put· .ensures .long, put-all· .ensures .next, put-all· .ensures .long, pre· .1, pre· .0 .short (args· .i) (omega arith))
+    omega (
+      arith,
+      put· .ensures .next,
+      put· .ensures .long,
+      put-all· .ensures .next,
+      put-all· .ensures .long,
+      pre· .1,
+      pre· .0 .short (args· .i)
+          (omega arith),
+    )
 
 put-bit-requires : tie.Need-put-bit-requires
 put-bit-requires c κs =
     let put· = c .before .before .before .before .before .before .before .before .before .before .before .before .put in
     let put-all· = c .before .before .before .before .before .before .before .put-all in
     let put2· = c .before .before .before .put2 in
-    let pre· = c .before .before .before .before .before .before .before .before .before .before .before .before .before .before .before .before .before .before .before .pre in
-    let args· = c .before .before .before .before .before .before .before .before .before .before .before .before .before .before .before .before .before .before .before .args in
-    omega (arith, put· .ensures .next, put· .ensures .long, put-all· .ensures .next, put-all· .ensures .long, put2· .ensures .next, put2· .ensures .long, pre· .1, pre· .0 .short (args· .i) (omega arith))
+    let pre· = c .before .before .before .before .before .before .before .before .before .before .before .before .before .before .before .before .before
+    .before .before .pre in
+    let args· = c .before .before .before .before .before .before .before .before .before .before .before .before .before .before .before .before .before
+    .before .before .args in
+    omega (
+      arith,
+      put· .ensures .next,
+      put· .ensures .long,
+      put-all· .ensures .next,
+      put-all· .ensures .long,
+      put2· .ensures .next,
+      put2· .ensures
+          .long,
+      pre· .1,
+      pre· .0 .short (args· .i) (omega arith),
+    )
 
 same-length : tie.Need-same-length
 same-length c = search needs
 
 returns : tie.Need-returns
 returns c =
-    let args· = c .before .before .before .before .before .before .before .before .before .before .before .before .before .before .before .before .before .before .before .before .before .before .args in
+    let args· = c .before .before .before .before .before .before .before .before .before .before .before .before .before .before .before .before .before
+    .before .before .before .before .before .args in
     let put· = c .before .before .before .before .before .before .before .before .before .before .before .before .before .before .before .put in
     let put-all· = c .before .before .before .before .before .before .before .before .before .before .put-all in
     let put2· = c .before .before .before .before .before .before .put2 in

@@ -48,7 +48,9 @@ loop-again c =
     let loop-test· = c .before .before .before .before .before .loop-test in
     let bit-of· = c .before .before .before .before .bit-of in
     let put-flag· = c .before .before .put-flag in
-    written-more (args· .text .now) (args· .codes .now) (args· .flags) (args· .state) (args· .out .now) (args· .at) (pre· .0) (loop· .out) (loop· .next) (loop· .i) (loop· .inv) (loop-test· .taken) (bit-of· .result) (bit-of· .ensures) (put-flag· .last .0) (put-flag· .result) (put-flag· .ensures)
+    written-more (args· .text .now) (args· .codes .now) (args· .flags) (args· .state) (args· .out .now) (args· .at) (pre· .0) (loop· .out)
+    (loop· .next) (loop· .i) (loop· .inv) (loop-test· .taken) (bit-of· .result) (bit-of· .ensures) (put-flag· .last .0) (put-flag· .result)
+    (put-flag· .ensures)
 
 same-length : tie.Need-same-length Inv-loop μ-loop
 same-length c =
@@ -61,7 +63,8 @@ returns c =
     let pre· = c .before .before .before .before .before .pre in
     let loop· = c .before .loop in
     let loop-test· = c .loop-test in
-    written-all (args· .text .now) (args· .codes .now) (args· .flags) (args· .state) (args· .out .now) (args· .at) (pre· .1) (loop· .out) (loop· .next) (loop· .i) (loop· .inv) (loop-test· .left)
+    written-all (args· .text .now) (args· .codes .now) (args· .flags) (args· .state) (args· .out .now) (args· .at) (pre· .1) (loop· .out)
+    (loop· .next) (loop· .i) (loop· .inv) (loop-test· .left)
 
 pub put-values-spec : {M : Type 1} → statement M
 put-values-spec =

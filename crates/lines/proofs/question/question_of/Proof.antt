@@ -42,7 +42,8 @@ returns-2 c =
     let is-digit· = c .before .before .before .is-digit in
     let if1· = c .before .before .if1 in
     let if2· = c .if2 in
-    ap (λ (d : ℕ). Asks d 2) (digit-value· .ensures) ∙ one-digit (args· .line .now) _ _ (byte-at· .ensures) (byte-at2· .ensures) (sym (is-digit· .ensures) ∙ not-false _ (if1· .left)) (if2· .taken)
+    ap (λ (d : ℕ). Asks d 2) (digit-value· .ensures) ∙ one-digit (args· .line .now) _ _ (byte-at· .ensures) (byte-at2· .ensures)
+    (sym (is-digit· .ensures) ∙ not-false _ (if1· .left)) (if2· .taken)
 
 is-digit-requires-2 : tie.Need-is-digit-requires-2
 is-digit-requires-2 c κs = search needs
@@ -57,7 +58,8 @@ returns-3 c =
     let if2· = c .before .before .if2 in
     let is-digit2· = c .before .is-digit2 in
     let if3· = c .if3 in
-    no-second (args· .line .now) _ _ (byte-at· .ensures) (byte-at2· .ensures) (sym (is-digit· .ensures) ∙ not-false _ (if1· .left)) (if2· .left) (sym (is-digit2· .ensures) ∙ not-true _ (if3· .taken))
+    no-second (args· .line .now) _ _ (byte-at· .ensures) (byte-at2· .ensures) (sym (is-digit· .ensures) ∙ not-false _ (if1· .left)) (if2· .left)
+    (sym (is-digit2· .ensures) ∙ not-true _ (if3· .taken))
 
 digit-value-requires-2 : tie.Need-digit-value-requires-2
 digit-value-requires-2 c κs =
@@ -80,7 +82,8 @@ returns-4 c =
     let if3· = c .before .before .before .if3 in
     let byte-at3· = c .before .byte-at3 in
     let if4· = c .if4 in
-    no-space (args· .line .now) _ _ (byte-at· .ensures) (byte-at2· .ensures) (sym (is-digit· .ensures) ∙ not-false _ (if1· .left)) (if2· .left) (sym (is-digit2· .ensures) ∙ not-false _ (if3· .left)) _ (byte-at3· .ensures) (if4· .taken)
+    no-space (args· .line .now) _ _ (byte-at· .ensures) (byte-at2· .ensures) (sym (is-digit· .ensures) ∙ not-false _ (if1· .left)) (if2· .left)
+    (sym (is-digit2· .ensures) ∙ not-false _ (if3· .left)) _ (byte-at3· .ensures) (if4· .taken)
 
 mul-t9 : tie.Need-mul-t9
 mul-t9 c = search needs
@@ -105,7 +108,8 @@ returns-5 c =
     let high = digit-value· .ensures in
     let low = digit-value2· .ensures in
     ap (λ (d : ℕ). Asks (10 * d + digit-value2· .result) 3) high ∙ ap (λ (d : ℕ). Asks (10 * digitValue (byte-at· .result) + d) 3) low
-    ∙ two-digits (args· .line .now) _ _ (byte-at· .ensures) (byte-at2· .ensures) (sym (is-digit· .ensures) ∙ not-false _ (if1· .left)) (if2· .left) (sym (is-digit2· .ensures) ∙ not-false _ (if3· .left)) _ (byte-at3· .ensures) (if4· .left)
+    ∙ two-digits (args· .line .now) _ _ (byte-at· .ensures) (byte-at2· .ensures) (sym (is-digit· .ensures) ∙ not-false _ (if1· .left)) (if2· .left)
+    (sym (is-digit2· .ensures) ∙ not-false _ (if3· .left)) _ (byte-at3· .ensures) (if4· .left)
 
 pub question-of-spec : {M : Type 1} → statement M
 question-of-spec =

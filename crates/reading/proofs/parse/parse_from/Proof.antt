@@ -58,7 +58,8 @@ same-requires c κs =
     let token-at· = c .before .before .before .before .before .before .token-at in
     let enum-told· = c .before .before .before .before .enum-told in
     let pre· = c .before .before .before .before .before .before .before .before .before .before .pre in
-    asks-first (before (args· .from) (args· .flags)) (token-at· .ensures) (enum-told· .given .1) (pre· .1 .0 .1) (pre· .1 .1) (pre· .0 .0) (pre· .0 .1) refl
+    asks-first (before (args· .from) (args· .flags)) (token-at· .ensures) (enum-told· .given .1) (pre· .1 .0 .1) (pre· .1 .1) (pre· .0 .0)
+    (pre· .0 .1) refl
 
 enum-known-whole : tie.Need-enum-known-whole
 enum-known-whole c = search needs

@@ -40,8 +40,12 @@ loop-less c = search needs
 loop-again : tie.Need-loop-again Inv-loop μ-loop
 loop-again c =
     let loop· = c .before .before .loop in
-    let args· = c .before .before .before .args in
-    (search needs, simp length-set (loop· .inv .1), ap (λ (l : List ℕ). set l (loop· .i) (getD (args· .from .now) (loop· .i) 0)) (loop· .inv .2) ∙ copy-more (args· .from .now) (args· .to .now) (loop· .i) (omega arith) (omega arith))
+    let args· = c .before .before .before .args in (
+      search needs,
+      simp length-set (loop· .inv .1),
+      ap (λ (l : List ℕ). set l (loop· .i) (getD (args· .from .now) (loop· .i) 0)) (loop· .inv .2)
+          ∙ copy-more (args· .from .now) (args· .to .now) (loop· .i) (omega arith) (omega arith),
+    )
 
 same-length : tie.Need-same-length Inv-loop μ-loop
 same-length c = search needs

@@ -10,7 +10,8 @@ use Rattle.relation.proofs.classes.fresh.Statement.{statement}
 use Rattle.relation.proofs.classes.fresh.Tie as tie
 
 abbrev Inv-loop : tie.InvT-loop
-Inv-loop of₀ v₀ literal₀ of v literal = (v ≤ variableCeiling) × (literal ≡ 2 * v) × (length of ≡ variableCeiling) × ((u : ℕ) → u < v → entry of u ≡ 2 * u)
+Inv-loop of₀ v₀ literal₀ of v literal = (v ≤ variableCeiling) × (literal ≡ 2 * v) × (length of ≡ variableCeiling)
+    × ((u : ℕ) → u < v → entry of u ≡ 2 * u)
 
 abbrev μ-loop : tie.MeasureT-loop
 μ-loop of₀ v₀ literal₀ of v literal = variableCeiling - v
@@ -35,14 +36,23 @@ loop-less c = search needs
 
 loop-again : tie.Need-loop-again Inv-loop μ-loop
 loop-again c =
-    let loop· = c .before .loop in
-    (search needs, search needs, search needs, stored-below (λ (u : ℕ). 2 * u) (loop· .of) (loop· .v) (loop· .literal) (search needs) (loop· .inv .3) (loop· .inv .1))
+    let loop· = c .before .loop in (
+      search needs,
+      search needs,
+      search needs,
+      stored-below (λ (u : ℕ). 2 * u) (loop· .of) (loop· .v) (loop· .literal) (search needs) (loop· .inv .3)
+          (loop· .inv .1),
+    )
 
 returns : tie.Need-returns Inv-loop μ-loop
 returns c =
     let loop· = c .before .loop in
     let all : (u : ℕ) → entry (loop· .of) u ≡ 2 * u = fresh-done (loop· .of) (loop· .v) (omega arith) (loop· .inv .3) in
-    record { classes = record { long = loop· .inv .2; fits = search needs; canonical = fresh-canonical (entry (loop· .of)) all }; only = fresh-only (entry (loop· .of)) all }
+    record {
+      classes = record { long = loop· .inv .2; fits = search needs; canonical = fresh-canonical (entry (loop· .of)) all };
+      only = fresh-only
+          (entry (loop· .of)) all;
+    }
 
 pub fresh-spec : {M : Type 1} → statement M
 fresh-spec =

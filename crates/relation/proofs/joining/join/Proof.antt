@@ -21,7 +21,8 @@ returns c =
     let args· = c .before .before .args in
     let pre· = c .before .before .pre in
     let if1· = c .if1 in
-    joined-none (args· .size) (args· .of .now) (args· .l) (args· .m) (pre· .0) (relation-all (entry (args· .of .now)) (eq-eqb (entry (args· .of .now) 0) 1 (if1· .taken)) (args· .l) (args· .m))
+    joined-none (args· .size) (args· .of .now) (args· .l) (args· .m) (pre· .0)
+    (relation-all (entry (args· .of .now)) (eq-eqb (entry (args· .of .now) 0) 1 (if1· .taken)) (args· .l) (args· .m))
 
 lead-requires : tie.Need-lead-requires
 lead-requires c κs = search needs
@@ -36,7 +37,8 @@ returns-2 c =
     let lead· = c .before .before .before .lead in
     let if2· = c .if2 in
     let lead2· = c .before .lead2 in
-    joined-none (args· .size) (args· .of .now) (args· .l) (args· .m) (pre· .0) (leads-same (entry (args· .of .now)) (args· .l) (args· .m) (sym (lead· .ensures .leads) ∙ if2· .taken ∙ lead2· .ensures .leads))
+    joined-none (args· .size) (args· .of .now) (args· .l) (args· .m) (pre· .0)
+    (leads-same (entry (args· .of .now)) (args· .l) (args· .m) (sym (lead· .ensures .leads) ∙ if2· .taken ∙ lead2· .ensures .leads))
 
 element-write-of : tie.Need-element-write-of
 element-write-of c = search needs
@@ -60,8 +62,11 @@ merge-requires c κs =
     let lead· = c .before .before .before .before .before .before .lead in
     let lead2· = c .before .before .before .before .lead2 in
     let if1· = c .before .before .before .before .before .before .before .before .if1 in
-    let if4· = c .before .if4 in
-    (pre· .0, leaders-of (args· .size) (entry (args· .of .now)) (args· .l) (args· .m) (lead· .result) (lead2· .result) (pre· .0 .canonical) (ne-eqb (entry (args· .of .now) 0) 1 (if1· .left)) (lead· .ensures .leads) (lead2· .ensures .leads) (if4· .taken) (pre· .1 .1))
+    let if4· = c .before .if4 in (
+      pre· .0,
+      leaders-of (args· .size) (entry (args· .of .now)) (args· .l) (args· .m) (lead· .result) (lead2· .result) (pre· .0 .canonical)
+          (ne-eqb (entry (args· .of .now) 0) 1 (if1· .left)) (lead· .ensures .leads) (lead2· .ensures .leads) (if4· .taken) (pre· .1 .1),
+    )
 
 returns-4 : tie.Need-returns-4
 returns-4 c =
@@ -70,7 +75,8 @@ returns-4 c =
     let lead· = c .before .before .before .before .before .before .before .lead in
     let lead2· = c .before .before .before .before .before .lead2 in
     let pre· = c .before .before .before .before .before .before .before .before .before .before .before .pre in
-    joined-leads (args· .size) (args· .of .now) (merge· .last .0) (args· .l) (args· .m) (lead· .result) (lead2· .result) (pre· .0) (lead· .ensures .leads) (lead2· .ensures .leads) (merge· .ensures)
+    joined-leads (args· .size) (args· .of .now) (merge· .last .0) (args· .l) (args· .m) (lead· .result) (lead2· .result) (pre· .0)
+    (lead· .ensures .leads) (lead2· .ensures .leads) (merge· .ensures)
 
 merge-requires-2 : tie.Need-merge-requires-2
 merge-requires-2 c κs =
@@ -80,8 +86,12 @@ merge-requires-2 c κs =
     let lead· = c .before .before .before .before .before .before .lead in
     let if1· = c .before .before .before .before .before .before .before .before .if1 in
     let if3· = c .before .before .if3 in
-    let if4· = c .before .if4 in
-    (pre· .0, leaders-of (args· .size) (entry (args· .of .now)) (args· .m) (args· .l) (lead2· .result) (lead· .result) (pre· .0 .canonical) (ne-eqb (entry (args· .of .now) 0) 1 (if1· .left)) (lead2· .ensures .leads) (lead· .ensures .leads) (below (if3· .left) (if4· .left)) (pre· .1 .0))
+    let if4· = c .before .if4 in (
+      pre· .0,
+      leaders-of (args· .size) (entry (args· .of .now)) (args· .m) (args· .l) (lead2· .result) (lead· .result) (pre· .0 .canonical)
+          (ne-eqb (entry (args· .of .now) 0) 1 (if1· .left)) (lead2· .ensures .leads) (lead· .ensures .leads) (below (if3· .left) (if4· .left))
+          (pre· .1 .0),
+    )
 
 returns-5 : tie.Need-returns-5
 returns-5 c =
@@ -90,7 +100,9 @@ returns-5 c =
     let lead2· = c .before .before .before .before .before .lead2 in
     let lead· = c .before .before .before .before .before .before .before .lead in
     let pre· = c .before .before .before .before .before .before .before .before .before .before .before .pre in
-    joined-turned (args· .size) (args· .of .now) (merge2· .last .0) (args· .l) (args· .m) (joined-leads (args· .size) (args· .of .now) (merge2· .last .0) (args· .m) (args· .l) (lead2· .result) (lead· .result) (pre· .0) (lead2· .ensures .leads) (lead· .ensures .leads) (merge2· .ensures))
+    joined-turned (args· .size) (args· .of .now) (merge2· .last .0) (args· .l) (args· .m)
+    (joined-leads (args· .size) (args· .of .now) (merge2· .last .0) (args· .m) (args· .l) (lead2· .result) (lead· .result) (pre· .0)
+    (lead2· .ensures .leads) (lead· .ensures .leads) (merge2· .ensures))
 
 pub join-spec : {M : Type 1} → statement M
 join-spec =

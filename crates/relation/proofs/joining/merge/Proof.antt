@@ -13,7 +13,8 @@ use Rattle.relation.proofs.joining.merge.Statement.{statement}
 use Rattle.relation.proofs.joining.merge.Tie as tie
 
 abbrev Inv-loop : tie.InvT-loop
-Inv-loop of₀ size lo hi v₀ of v = (hi / 2 ≤ v) × (v ≤ size) × (length of ≡ variableCeiling) × ((u : ℕ) → u < v → entry of u ≡ moved lo hi (entry of₀ u)) × ((u : ℕ) → v ≤ u → entry of u ≡ entry of₀ u)
+Inv-loop of₀ size lo hi v₀ of v = (hi / 2 ≤ v) × (v ≤ size) × (length of ≡ variableCeiling)
+    × ((u : ℕ) → u < v → entry of u ≡ moved lo hi (entry of₀ u)) × ((u : ℕ) → v ≤ u → entry of u ≡ entry of₀ u)
 
 abbrev μ-loop : tie.MeasureT-loop
 μ-loop of₀ size lo hi v₀ of v = size - v
@@ -24,8 +25,14 @@ cast-v c = search needs
 loop-holds : tie.Need-loop-holds Inv-loop μ-loop
 loop-holds c =
     let pre· = c .pre in
-    let args· = c .args in
-    (search needs, omega arith, pre· .0 .long, (λ u p. moved-low (args· .size) (entry (args· .of .now)) (args· .lo) (args· .hi) u (pre· .0 .canonical) p), λ u p. refl)
+    let args· = c .args in (
+      search needs,
+      omega arith,
+      pre· .0 .long,
+      (λ u p. moved-low (args· .size) (entry (args· .of .now)) (args· .lo) (args· .hi) u (pre· .0 .canonical)
+          p),
+      λ u p. refl,
+    )
 
 mul-w : tie.Need-mul-w Inv-loop μ-loop
 mul-w c = omega arith
@@ -37,7 +44,16 @@ moved-to-requires : tie.Need-moved-to-requires Inv-loop μ-loop
 moved-to-requires c κs =
     let loop· = c .before .before .loop in
     let pre· = c .before .before .before .pre in
-    omega (arith, entry-at (loop· .of) (loop· .v) 0 (search needs), loop· .inv .4 (loop· .v) (search needs), pre· .0 .canonical .lower (loop· .v), pre· .0 .fits, pre· .1 .less, pre· .1 .inside)
+    omega (
+      arith,
+      entry-at (loop· .of) (loop· .v) 0 (search needs),
+      loop· .inv .4 (loop· .v) (search needs),
+      pre· .0 .canonical .lower (loop· .v),
+      pre·
+          .0 .fits,
+      pre· .1 .less,
+      pre· .1 .inside,
+    )
 
 mul-of : tie.Need-mul-of Inv-loop μ-loop
 mul-of c = omega arith
@@ -62,7 +78,8 @@ loop-again c =
       search needs,
       search needs,
       search needs,
-      stored-below (λ (u : ℕ). moved (args· .lo) (args· .hi) (entry (args· .of .now) u)) (loop· .of) (loop· .v) (moved-to· .result) inside (loop· .inv .3) moves,
+      stored-below (λ (u : ℕ). moved (args· .lo) (args· .hi) (entry (args· .of .now) u)) (loop· .of) (loop· .v) (moved-to· .result) inside
+          (loop· .inv .3) moves,
       λ u p. stored-other (loop· .of) (loop· .v) (moved-to· .result) u (λ q. omega arith) ∙ loop· .inv .4 u (omega arith),
     )
 
@@ -74,7 +91,8 @@ returns c =
     merge-done (args· .size) (args· .of .now) (loop· .of) (args· .lo) (args· .hi) (pre· .0) (pre· .1) (loop· .inv .2)
     (λ u. ⊎-elim
     (λ (p : u < loop· .v). loop· .inv .3 u p)
-    (λ (p : loop· .v ≤ u). loop· .inv .4 u p ∙ moved-beyond (args· .size) (entry (args· .of .now)) (args· .lo) (args· .hi) u (pre· .0 .canonical) (pre· .1) (omega arith))
+    (λ (p : loop· .v ≤ u). loop· .inv .4 u p ∙ moved-beyond (args· .size) (entry (args· .of .now)) (args· .lo) (args· .hi) u (pre· .0 .canonical)
+    (pre· .1) (omega arith))
     (lt-or-ge u (loop· .v)))
 
 pub merge-spec : {M : Type 1} → statement M

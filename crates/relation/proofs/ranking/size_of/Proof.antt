@@ -48,7 +48,15 @@ add-count c =
     let args· = c .before .before .before .before .before .before .args in
     let stands· = c .stands in
     let pre· = c .before .before .before .before .before .before .pre in
-    omega (arith, own-most (loop· .v) (entry (args· .of .now)), chosen-most (eqb (getD (args· .of .now) (loop· .v) 0) (loop· .literal)), stands· .ensures, pre· .fits, loop· .inv .2)
+    omega (
+      arith,
+      own-most (loop· .v) (entry (args· .of .now)),
+      chosen-most (eqb (getD (args· .of .now) (loop· .v) 0) (loop· .literal)),
+      stands·
+          .ensures,
+      pre· .fits,
+      loop· .inv .2,
+    )
 
 add-literal : tie.Need-add-literal Inv-loop μ-loop
 add-literal c = search needs
@@ -77,7 +85,8 @@ returns-2 c =
     let args· = c .before .before .before .before .args in
     let if1· = c .before .before .if1 in
     let whole : loop· .v ≡ args· .size = omega arith in
-    loop· .inv .2 ∙ ap (λ (n : ℕ). 1 + own n (entry (args· .of .now))) whole ∙ sym (rank-consistent (args· .size) (entry (args· .of .now)) (ne-eqb (entry (args· .of .now) 0) 1 (if1· .left)))
+    loop· .inv .2 ∙ ap (λ (n : ℕ). 1 + own n (entry (args· .of .now))) whole ∙ sym
+    (rank-consistent (args· .size) (entry (args· .of .now)) (ne-eqb (entry (args· .of .now) 0) 1 (if1· .left)))
 
 pub size-of-spec : {M : Type 1} → statement M
 size-of-spec =

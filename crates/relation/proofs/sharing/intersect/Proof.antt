@@ -15,7 +15,8 @@ use Rattle.relation.proofs.sharing.intersect.Statement.{statement}
 use Rattle.relation.proofs.sharing.intersect.Tie as tie
 
 abbrev Inv-loop : tie.InvT-loop
-Inv-loop of₀ other size v₀ of v = (v ≤ size) × (length of ≡ variableCeiling) × ((u : ℕ) → u < v → entry of u ≡ entry of₀ u) × ((u : ℕ) → v ≤ u → SharedLeader (entry of₀) (entry other) u (entry of u))
+Inv-loop of₀ other size v₀ of v = (v ≤ size) × (length of ≡ variableCeiling) × ((u : ℕ) → u < v → entry of u ≡ entry of₀ u)
+    × ((u : ℕ) → v ≤ u → SharedLeader (entry of₀) (entry other) u (entry of u))
 
 abbrev μ-loop : tie.MeasureT-loop
 μ-loop of₀ other size v₀ of v = v
@@ -23,8 +24,14 @@ abbrev μ-loop : tie.MeasureT-loop
 loop-holds : tie.Need-loop-holds Inv-loop μ-loop
 loop-holds c =
     let pre· = c .pre in
-    let args· = c .args in
-    (search needs, pre· .0 .long, (λ u p. refl), λ u p. subst (λ (w : ℕ). SharedLeader (entry (args· .of .now)) (entry (args· .other .now)) u w) (sym (pre· .0 .canonical .beyond u p)) (shared-beyond (args· .size) (entry (args· .of .now)) (entry (args· .other .now)) u (pre· .0 .canonical) p))
+    let args· = c .args in (
+      search needs,
+      pre· .0 .long,
+      (λ u p. refl),
+      λ u p. subst (λ (w : ℕ). SharedLeader (entry (args· .of .now)) (entry (args· .other .now)) u w)
+          (sym (pre· .0 .canonical .beyond u p))
+          (shared-beyond (args· .size) (entry (args· .of .now)) (entry (args· .other .now)) u (pre· .0 .canonical) p),
+    )
 
 sub-v : tie.Need-sub-v Inv-loop μ-loop
 sub-v c = search needs
@@ -33,8 +40,10 @@ shared-leader-requires : tie.Need-shared-leader-requires Inv-loop μ-loop
 shared-leader-requires c κs =
     let args· = c .before .before .before .args in
     let loop· = c .before .before .loop in
-    let pre· = c .before .before .before .pre in
-    (still-lower (args· .size) (args· .of .now) (loop· .of) (args· .other .now) (loop· .v) (pre· .0) (loop· .inv .1) (loop· .inv .2) (loop· .inv .3), (lowers (args· .size) (args· .other .now) (pre· .1 .0), omega arith))
+    let pre· = c .before .before .before .pre in (
+      still-lower (args· .size) (args· .of .now) (loop· .of) (args· .other .now) (loop· .v) (pre· .0) (loop· .inv .1) (loop· .inv .2) (loop· .inv .3),
+      (lowers (args· .size) (args· .other .now) (pre· .1 .0), omega arith),
+    )
 
 mul-of : tie.Need-mul-of Inv-loop μ-loop
 mul-of c = omega arith
@@ -56,10 +65,14 @@ loop-again c =
       search needs,
       (λ j p. stored-other (loop· .of) u (shared-leader· .result) j (λ q. omega arith) ∙ loop· .inv .2 j (omega arith)),
       λ j p. ⊎-elim
-          (λ (q : j ≡ u). subst (λ (i : ℕ). SharedLeader (entry (args· .of .now)) (entry (args· .other .now)) i (entry (set (loop· .of) u (shared-leader· .result)) i)) (sym q)
-          (subst (λ (w : ℕ). SharedLeader (entry (args· .of .now)) (entry (args· .other .now)) u w) (sym (getD-set-same (loop· .of) u (shared-leader· .result) (2 * u) inside))
-          (shared-same (entry (args· .of .now)) (entry (loop· .of)) (entry (args· .other .now)) u (shared-leader· .result) (λ i h. loop· .inv .2 i (omega arith)) (shared-leader· .ensures))))
-          (λ (q : j ≡ u → ⊥). subst (λ (w : ℕ). SharedLeader (entry (args· .of .now)) (entry (args· .other .now)) j w) (sym (stored-other (loop· .of) u (shared-leader· .result) j q)) (loop· .inv .3 j (omega arith)))
+          (λ (q : j ≡ u). subst (λ (i : ℕ). SharedLeader (entry (args· .of .now)) (entry (args· .other .now)) i
+          (entry (set (loop· .of) u (shared-leader· .result)) i)) (sym q)
+          (subst (λ (w : ℕ). SharedLeader (entry (args· .of .now)) (entry (args· .other .now)) u w)
+          (sym (getD-set-same (loop· .of) u (shared-leader· .result) (2 * u) inside))
+          (shared-same (entry (args· .of .now)) (entry (loop· .of)) (entry (args· .other .now)) u (shared-leader· .result)
+          (λ i h. loop· .inv .2 i (omega arith)) (shared-leader· .ensures))))
+          (λ (q : j ≡ u → ⊥). subst (λ (w : ℕ). SharedLeader (entry (args· .of .now)) (entry (args· .other .now)) j w)
+          (sym (stored-other (loop· .of) u (shared-leader· .result) j q)) (loop· .inv .3 j (omega arith)))
           (split-eq j u),
     )
 
@@ -68,7 +81,8 @@ returns c =
     let args· = c .before .before .args in
     let loop· = c .before .loop in
     let pre· = c .before .before .pre in
-    shared-done (args· .size) (args· .of .now) (args· .other .now) (loop· .of) (pre· .0) (pre· .1 .0) (pre· .1 .1 .0) (pre· .1 .1 .1) (loop· .inv .1) (λ u. loop· .inv .3 u (omega arith))
+    shared-done (args· .size) (args· .of .now) (args· .other .now) (loop· .of) (pre· .0) (pre· .1 .0) (pre· .1 .1 .0) (pre· .1 .1 .1) (loop· .inv .1)
+    (λ u. loop· .inv .3 u (omega arith))
 
 pub intersect-spec : {M : Type 1} → statement M
 intersect-spec =

@@ -1,11 +1,13 @@
--- The proof of the cycle of calls {side, walk}. A side is what is left of it; the two sides of the first flag lie one after the other. The measure is twice the number of flags left, and one more for a side.
+-- The proof of the cycle of calls {side, walk}. A side is what is left of it; the two sides of the first flag lie one after the other. The measure is twice the
+-- number of flags left, and one more for a side.
 use Prim.Native.Nat.{suc, _+_, _*_, _-_, _≤_}
 use mathlib.Core.Path.{_≡_, _∙_}
 use native.Mathlib.Omega.{arith}
 use lib.Pow.{pow-pos}
 use borrow.Author.Needs.{needs}
 use Rattle.gaps.proofs.Written.{writes-room}
-use Rattle.search.proofs.Walks.{walked-before, walked-true, walked-left, triplets-left, walked-both, walked-stop, stretch-lower, stretch-upper, half-lower, half-upper, shifted, rows-again}
+use Rattle.search.proofs.Walks.{walked-before, walked-true, walked-left, triplets-left, walked-both, walked-stop, stretch-lower, stretch-upper}
+use Rattle.search.proofs.Walks.{half-lower, half-upper, shifted, rows-again}
 use Prim.Native.Nat.{ℕ, _<_}
 use borrow.Fn.Kinds.{In}
 use borrow.Fn.PlainCycle.{Measures, is, falls, and}
@@ -89,9 +91,21 @@ side-slice-aggregate-walk t c = search needs
 
 side-walk-requires : (t : ℕ) → side-lts.Need-walk-requires (side-in t) (side-at t) side.Post
 side-walk-requires t c κs =
-    let pre· = c .before .before .before .before .before .before .before .before .before .before .before .before .before .before .before .before .before .pre in
-    let fix-first· = c .before .before .before .before .before .before .before .before .before .fix-first in
-    (omega arith, ((triplets-left _ _ _ _ _ _ _ _ (fix-first· .ensures) (pre· .1 .0 .0 .flags) (pre· .1 .0 .0 .count .0) (rw (fix-first· .kept .1 .1 .1 .1 .1 .1 .0) (omega arith)), pre· .1 .0 .1, pre· .1 .0 .2, pre· .1 .0 .3), (pre· .1 .1 .0, rw (fix-first· .kept .1 .1 .1 .1 .1 .0) (pre· .1 .1 .1))))
+    let pre· = c .before .before .before .before .before .before .before .before .before .before .before .before .before .before .before .before .before .pre
+    in
+    let fix-first· = c .before .before .before .before .before .before .before .before .before .fix-first in (
+      omega arith,
+      (
+        (
+          triplets-left _ _ _ _ _ _ _ _ (fix-first· .ensures) (pre· .1 .0 .0 .flags) (pre· .1 .0 .0 .count .0)
+              (rw (fix-first· .kept .1 .1 .1 .1 .1 .1 .0) (omega arith)),
+          pre· .1 .0 .1,
+          pre· .1 .0 .2,
+          pre· .1 .0 .3,
+        ),
+        (pre· .1 .1 .0, rw (fix-first· .kept .1 .1 .1 .1 .1 .0) (pre· .1 .1 .1)),
+      ),
+    )
 
 side-same-length-2 : (t : ℕ) → side-lts.Need-same-length-2 (side-in t) (side-at t) side.Post
 side-same-length-2 t c =
@@ -101,7 +115,8 @@ side-same-length-2 t c =
 side-same-length-3 : (t : ℕ) → side-lts.Need-same-length-3 (side-in t) (side-at t) side.Post
 side-same-length-3 t c =
     let walk· = c .before .before .before .before .before .before .walk in
-    let fix-first· = c .before .before .before .before .before .before .before .before .before .before .before .before .before .before .before .before .fix-first in
+    let fix-first· = c .before .before .before .before .before .before .before .before .before .before .before .before .before .before .before .before
+    .fix-first in
     walk· .kept .1 .1 .1 .1 .1 .1 .1 .0 ∙ fix-first· .kept .1 .1 .1 .1 .1 .0
 
 side-same-length-4 : (t : ℕ) → side-lts.Need-same-length-4 (side-in t) (side-at t) side.Post
@@ -111,8 +126,10 @@ side-same-length-4 t c =
 
 side-returns-3 : (t : ℕ) → side-lts.Need-returns-3 (side-in t) (side-at t) side.Post
 side-returns-3 t c =
-    let fix-first· = c .before .before .before .before .before .before .before .before .before .before .before .before .before .before .before .before .fix-first in
-    let pre· = c .before .before .before .before .before .before .before .before .before .before .before .before .before .before .before .before .before .before .before .before .before .before .before .before .pre in
+    let fix-first· = c .before .before .before .before .before .before .before .before .before .before .before .before .before .before .before .before
+    .fix-first in
+    let pre· = c .before .before .before .before .before .before .before .before .before .before .before .before .before .before .before .before .before
+    .before .before .before .before .before .before .before .pre in
     let walk· = c .before .before .before .before .before .before .walk in
     walked-left _ _ _ _ _ _ _ _ (fix-first· .ensures) _ _ _ _ _ _ _ (pre· .1 .1 .2) _ _ (walk· .ensures)
 
@@ -151,8 +168,19 @@ walk-side-requires : (t : ℕ) → walk-lts.Need-side-requires (walk-in t) (walk
 walk-side-requires t c κs =
     let pre· = c .before .before .before .before .before .before .before .before .pre in
     let if1· = c .before .before .before .if1 in
-    let args· = c .before .before .before .before .before .before .before .before .args in
-    (omega arith, ((rw (before-it (args· .n) (args· .low) (pre· .1 .1 .0) (if1· .left)) (pre· .1 .0 .0), pre· .1 .0 .1, stretch-lower _ _ _ _ (before-it (args· .n) (args· .low) (pre· .1 .1 .0) (if1· .left)) (pre· .1 .0 .2), pre· .1 .0 .3), (omega arith, pre· .1 .1 .1, half-lower _ _ _ _ (before-it (args· .n) (args· .low) (pre· .1 .1 .0) (if1· .left)) (pre· .1 .0 .2))))
+    let args· = c .before .before .before .before .before .before .before .before .args in (
+      omega arith,
+      (
+        (
+          rw (before-it (args· .n) (args· .low) (pre· .1 .1 .0) (if1· .left)) (pre· .1 .0 .0),
+          pre· .1 .0 .1,
+          stretch-lower _ _ _ _
+              (before-it (args· .n) (args· .low) (pre· .1 .1 .0) (if1· .left)) (pre· .1 .0 .2),
+          pre· .1 .0 .3,
+        ),
+        (omega arith, pre· .1 .1 .1, half-lower _ _ _ _ (before-it (args· .n) (args· .low) (pre· .1 .1 .0) (if1· .left)) (pre· .1 .0 .2)),
+      ),
+    )
 
 walk-enum-known-found : (t : ℕ) → walk-lts.Need-enum-known-found (walk-in t) (walk-at t) walk.Post
 walk-enum-known-found t c = search needs
@@ -177,8 +205,10 @@ walk-same-length-5 t c =
 
 walk-returns-2 : (t : ℕ) → walk-lts.Need-returns-2 (walk-in t) (walk-at t) walk.Post
 walk-returns-2 t c =
-    let args· = c .before .before .before .before .before .before .before .before .before .before .before .before .before .before .before .before .before .args in
-    let pre· = c .before .before .before .before .before .before .before .before .before .before .before .before .before .before .before .before .before .pre in
+    let args· = c .before .before .before .before .before .before .before .before .before .before .before .before .before .before .before .before .before
+    .args in
+    let pre· = c .before .before .before .before .before .before .before .before .before .before .before .before .before .before .before .before .before .pre
+    in
     let if1· = c .before .before .before .before .before .before .before .before .before .before .before .before .if1 in
     let enum-told· = c .enum-told in
     let side· = c .before .before .before .before .before .before .before .before .side in
@@ -189,47 +219,85 @@ walk-sub-side-2 t c = omega arith
 
 walk-add-side : (t : ℕ) → walk-lts.Need-add-side (walk-in t) (walk-at t) walk.Post
 walk-add-side t c =
-    let args· = c .before .before .before .before .before .before .before .before .before .before .before .before .before .before .before .before .before .before .before .before .args in
-    let pre· = c .before .before .before .before .before .before .before .before .before .before .before .before .before .before .before .before .before .before .before .before .pre in
+    let args· = c .before .before .before .before .before .before .before .before .before .before .before .before .before .before .before .before .before
+    .before .before .before .args in
+    let pre· = c .before .before .before .before .before .before .before .before .before .before .before .before .before .before .before .before .before
+    .before .before .before .pre in
     let if1· = c .before .before .before .before .before .before .before .before .before .before .before .before .before .before .before .if1 in
-    record { fits = omega (arith, (shifted (args· .n - 1) (omega arith)), pre· .1 .0 .2 .small, stretch-upper _ _ _ _ _ (before-it (args· .n) (args· .low) (pre· .1 .1 .0) (if1· .left)) (shifted (args· .n - 1) (omega arith)) (pre· .1 .0 .2) .small) }
+    record {
+      fits = omega (
+        arith,
+        (shifted (args· .n - 1) (omega arith)),
+        pre· .1 .0 .2 .small,
+        stretch-upper _ _ _ _ _
+            (before-it (args· .n) (args· .low) (pre· .1 .1 .0) (if1· .left)) (shifted (args· .n - 1) (omega arith)) (pre· .1 .0 .2) .small,
+      );
+    }
 
 walk-side-requires-2 : (t : ℕ) → walk-lts.Need-side-requires-2 (walk-in t) (walk-at t) walk.Post
 walk-side-requires-2 t c κs =
-    let pre· = c .before .before .before .before .before .before .before .before .before .before .before .before .before .before .before .before .before .before .before .before .before .pre in
+    let pre· = c .before .before .before .before .before .before .before .before .before .before .before .before .before .before .before .before .before
+    .before .before .before .before .pre in
     let if1· = c .before .before .before .before .before .before .before .before .before .before .before .before .before .before .before .before .if1 in
-    let args· = c .before .before .before .before .before .before .before .before .before .before .before .before .before .before .before .before .before .before .before .before .before .args in
+    let args· = c .before .before .before .before .before .before .before .before .before .before .before .before .before .before .before .before .before
+    .before .before .before .before .args in
     let side· = c .before .before .before .before .before .before .before .before .before .before .before .before .side in
-    let found· = c .before .before .before .before .found in
-    (omega arith, ((rw (before-it (args· .n) (args· .low) (pre· .1 .1 .0) (if1· .left)) (pre· .1 .0 .0), rows-again _ _ _ _ (pre· .1 .0 .1) (side· .kept .1 .1 .1 .1 .1 .1 .0) (side· .ensures .right), stretch-upper _ _ _ _ _ (before-it (args· .n) (args· .low) (pre· .1 .1 .0) (if1· .left)) (shifted (args· .n - 1) (omega arith)) (pre· .1 .0 .2), rw (side· .kept .1 .1 .1 .1 .1 .1 .1 .1 .1 .1 .1 .1 .0) (writes-room _ _ _ _ _ _ (found· .given .1) (side· .ensures .writes))), (omega arith, rw (side· .kept .1 .1 .1 .1 .1 .1 .1 .1 .0) (pre· .1 .1 .1), half-upper _ _ _ _ _ (before-it (args· .n) (args· .low) (pre· .1 .1 .0) (if1· .left)) (shifted (args· .n - 1) (omega arith)) (pre· .1 .0 .2))))
+    let found· = c .before .before .before .before .found in (
+      omega arith,
+      (
+        (
+          rw (before-it (args· .n) (args· .low) (pre· .1 .1 .0) (if1· .left)) (pre· .1 .0 .0),
+          rows-again _ _ _ _ (pre· .1 .0 .1)
+              (side· .kept .1 .1 .1 .1 .1 .1 .0) (side· .ensures .right),
+          stretch-upper _ _ _ _ _
+              (before-it (args· .n) (args· .low) (pre· .1 .1 .0) (if1· .left)) (shifted (args· .n - 1) (omega arith)) (pre· .1 .0 .2),
+          rw
+              (side· .kept .1 .1 .1 .1 .1 .1 .1 .1 .1 .1 .1 .1 .0) (writes-room _ _ _ _ _ _ (found· .given .1) (side· .ensures .writes)),
+        ),
+        (
+          omega arith,
+          rw (side· .kept .1 .1 .1 .1 .1 .1 .1 .1 .0) (pre· .1 .1 .1),
+          half-upper _ _ _ _ _
+              (before-it (args· .n) (args· .low) (pre· .1 .1 .0) (if1· .left)) (shifted (args· .n - 1) (omega arith)) (pre· .1 .0 .2),
+        ),
+      ),
+    )
 
 walk-same-length-6 : (t : ℕ) → walk-lts.Need-same-length-6 (walk-in t) (walk-at t) walk.Post
 walk-same-length-6 t c =
     let side2· = c .before .before .before .before .before .before .side2 in
-    let side· = c .before .before .before .before .before .before .before .before .before .before .before .before .before .before .before .before .before .before .before .side in
+    let side· = c .before .before .before .before .before .before .before .before .before .before .before .before .before .before .before .before .before
+    .before .before .side in
     side2· .kept .1 .1 .1 .1 .1 .1 .0 ∙ side· .kept .1 .1 .1 .1 .1 .1 .0
 
 walk-same-length-7 : (t : ℕ) → walk-lts.Need-same-length-7 (walk-in t) (walk-at t) walk.Post
 walk-same-length-7 t c =
     let side2· = c .before .before .before .before .before .before .side2 in
-    let side· = c .before .before .before .before .before .before .before .before .before .before .before .before .before .before .before .before .before .before .before .side in
+    let side· = c .before .before .before .before .before .before .before .before .before .before .before .before .before .before .before .before .before
+    .before .before .side in
     side2· .kept .1 .1 .1 .1 .1 .1 .1 .1 .0 ∙ side· .kept .1 .1 .1 .1 .1 .1 .1 .1 .0
 
 walk-same-length-8 : (t : ℕ) → walk-lts.Need-same-length-8 (walk-in t) (walk-at t) walk.Post
 walk-same-length-8 t c =
     let side2· = c .before .before .before .before .before .before .side2 in
-    let side· = c .before .before .before .before .before .before .before .before .before .before .before .before .before .before .before .before .before .before .before .side in
+    let side· = c .before .before .before .before .before .before .before .before .before .before .before .before .before .before .before .before .before
+    .before .before .side in
     side2· .kept .1 .1 .1 .1 .1 .1 .1 .1 .1 .1 .1 .1 .0 ∙ side· .kept .1 .1 .1 .1 .1 .1 .1 .1 .1 .1 .1 .1 .0
 
 walk-returns-3 : (t : ℕ) → walk-lts.Need-returns-3 (walk-in t) (walk-at t) walk.Post
 walk-returns-3 t c =
-    let args· = c .before .before .before .before .before .before .before .before .before .before .before .before .before .before .before .before .before .before .before .before .before .before .before .before .before .before .before .before .args in
-    let pre· = c .before .before .before .before .before .before .before .before .before .before .before .before .before .before .before .before .before .before .before .before .before .before .before .before .before .before .before .before .pre in
-    let if1· = c .before .before .before .before .before .before .before .before .before .before .before .before .before .before .before .before .before .before .before .before .before .before .before .if1 in
+    let args· = c .before .before .before .before .before .before .before .before .before .before .before .before .before .before .before .before .before
+    .before .before .before .before .before .before .before .before .before .before .before .args in
+    let pre· = c .before .before .before .before .before .before .before .before .before .before .before .before .before .before .before .before .before
+    .before .before .before .before .before .before .before .before .before .before .before .pre in
+    let if1· = c .before .before .before .before .before .before .before .before .before .before .before .before .before .before .before .before .before
+    .before .before .before .before .before .before .if1 in
     let found· = c .before .before .before .before .before .before .before .before .before .before .before .found in
-    let side· = c .before .before .before .before .before .before .before .before .before .before .before .before .before .before .before .before .before .before .before .side in
+    let side· = c .before .before .before .before .before .before .before .before .before .before .before .before .before .before .before .before .before
+    .before .before .side in
     let side2· = c .before .before .before .before .before .before .side2 in
-    rw (before-it (args· .n) (args· .low) (pre· .1 .1 .0) (if1· .left)) at (walked-both _ _ _ _ _ _ _ _ _ _ _ _ _ _ _ (found· .given .1) (side· .ensures) (rw (shifted (args· .n - 1) (omega arith)) at (side2· .ensures)))
+    rw (before-it (args· .n) (args· .low) (pre· .1 .1 .0) (if1· .left)) at
+    (walked-both _ _ _ _ _ _ _ _ _ _ _ _ _ _ _ (found· .given .1) (side· .ensures) (rw (shifted (args· .n - 1) (omega arith)) at (side2· .ensures)))
 
 pub +side+walk-spec : {M : Type 1} → statement M
 +side+walk-spec = close μ-side μ-walk (λ t. side-lts.spec (side-in t) (side-at t)

@@ -10,15 +10,33 @@ use Rattle.search.proofs.walk.block.Tie as tie
 evaluate-requires : tie.Need-evaluate-requires
 evaluate-requires c κs =
     let pre· = c .before .before .before .before .pre in
-    let args· = c .before .before .before .before .args in
-    ((pre· .0 .flags, pre· .0 .count .0, pre· .0 .count .1, le-trans (mul-le-mul-right (args· .width) (omega arith)) (pre· .1 .long)), (pre· .0 .shape, pre· .1 .right))
+    let args· = c .before .before .before .before .args in (
+      (pre· .0 .flags, pre· .0 .count .0, pre· .0 .count .1, le-trans (mul-le-mul-right (args· .width) (omega arith)) (pre· .1 .long)),
+      (pre· .0 .shape, pre· .1 .right),
+    )
 
 write-row-requires : tie.Need-write-row-requires
 write-row-requires c κs =
     let pre· = c .before .before .before .before .before .before .before .before .before .pre in
     let args· = c .before .before .before .before .before .before .before .before .before .args in
-    let evaluate· = c .before .before .before .before .evaluate in
-    ((omega arith, pre· .1 .enough, omega arith), (omega (arith, named-below (args· .n) (args· .count) (args· .root) (pre· .0 .flags) (pre· .0 .named), pre· .0 .count .0), rw (evaluate· .ensures .long) (le-trans (mul-le-mul-right (args· .width) (omega (arith, named-below (args· .n) (args· .count) (args· .root) (pre· .0 .flags) (pre· .0 .named), pre· .0 .count .0))) (pre· .1 .long)), pre· .3))
+    let evaluate· = c .before .before .before .before .evaluate in (
+      (omega arith, pre· .1 .enough, omega arith),
+      (
+        omega (
+          arith,
+          named-below (args· .n) (args· .count) (args· .root) (pre· .0 .flags) (pre· .0 .named),
+          pre· .0 .count .0,
+        ),
+        rw (evaluate· .ensures .long) (le-trans
+            (mul-le-mul-right (args· .width) (omega (
+              arith,
+              named-below (args· .n) (args· .count) (args· .root) (pre· .0 .flags) (pre· .0 .named),
+              pre·
+                  .0 .count .0,
+            ))) (pre· .1 .long)),
+        pre· .3,
+      ),
+    )
 
 same-length : tie.Need-same-length
 same-length c = search needs

@@ -31,7 +31,8 @@ returns c =
     let args· = c .before .before .before .before .before .args in
     let loop· = c .before .before .before .loop in
     let if1· = c .if1 in
-    passing-broken (args· .triplets .now) (args· .count) (loop· .j) (args· .of .now) (loop· .of) (eq-eqb (entry (loop· .of) 0) 1 (if1· .taken)) (loop· .inv .1)
+    passing-broken (args· .triplets .now) (args· .count) (loop· .j) (args· .of .now) (loop· .of) (eq-eqb (entry (loop· .of) 0) 1 (if1· .taken))
+    (loop· .inv .1)
 
 mul-kind : tie.Need-mul-kind Inv-loop μ-loop
 mul-kind c =
@@ -120,8 +121,14 @@ step-requires c κs =
     let pre· = c .before .before .before .before .before .before .before .before .before .pre in
     let loop· = c .before .before .before .before .before .before .before .loop in
     let args· = c .before .before .before .before .before .before .before .before .before .args in
-    let loop-test· = c .before .before .before .before .before .before .loop-test in
-    (pre· .0, (loop· .inv .1 .classes, usable-at (args· .triplets .now) (args· .count) (loop· .j) (2 * inUse (loop· .j)) (pre· .1 .0) (loop-test· .taken) (omega arith)))
+    let loop-test· = c .before .before .before .before .before .before .loop-test in (
+      pre· .0,
+      (
+        loop· .inv .1 .classes,
+        usable-at (args· .triplets .now) (args· .count) (loop· .j) (2 * inUse (loop· .j)) (pre· .1 .0)
+            (loop-test· .taken) (omega arith),
+      ),
+    )
 
 add-j : tie.Need-add-j Inv-loop μ-loop
 add-j c =
@@ -136,8 +143,11 @@ loop-again c =
     let args· = c .before .before .before .before .before .before .before .before .before .before .args in
     let loop· = c .before .before .before .before .before .before .before .before .loop in
     let step· = c .step in
-    let loop-test· = c .before .before .before .before .before .before .before .loop-test in
-    (search needs, passing-next (args· .triplets .now) (args· .count) (loop· .j) (2 * inUse (loop· .j)) (args· .of .now) (loop· .of) (step· .last .0) (loop-test· .taken) (loop· .inv .1) (omega arith) (step· .ensures))
+    let loop-test· = c .before .before .before .before .before .before .before .loop-test in (
+      search needs,
+      passing-next (args· .triplets .now) (args· .count) (loop· .j) (2 * inUse (loop· .j)) (args· .of .now) (loop· .of) (step· .last .0)
+          (loop-test· .taken) (loop· .inv .1) (omega arith) (step· .ensures),
+    )
 
 returns-2 : tie.Need-returns-2 Inv-loop μ-loop
 returns-2 c =

@@ -67,7 +67,8 @@ loop-again c =
     let loop· = c .before .before .before .before .before .before .loop in
     let pass· = c .before .before .pass in
     let size-of2· = c .size-of2 in
-    settling-next (args· .triplets .now) (args· .count) (args· .of .now) (loop· .of) (pass· .last .0) (loop· .left) (loop· .was) (size-of2· .result) (loop· .inv) (pass· .ensures) (size-of2· .ensures)
+    settling-next (args· .triplets .now) (args· .count) (args· .of .now) (loop· .of) (pass· .last .0) (loop· .left) (loop· .was) (size-of2· .result)
+    (loop· .inv) (pass· .ensures) (size-of2· .ensures)
 
 returns : tie.Need-returns Inv-loop μ-loop
 returns c =

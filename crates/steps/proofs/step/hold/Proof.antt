@@ -18,8 +18,15 @@ join-requires : tie.Need-join-requires
 join-requires c κs =
     let pre· = c .before .before .pre in
     let args· = c .before .before .args in
-    let literal-at· = c .before .literal-at in
-    (pre· .0, (pre· .1 .1 .0, subst (λ (l : ℕ). l / 2 < args· .size) (sym (literal-at· .ensures)) (literal-inside (args· .size) (args· .x) (args· .y) (args· .z) (pre· .1 .1 .0) (pre· .1 .1 .1) (pre· .1 .1 .2) (getD zNames (args· .pattern / 35) own-z))))
+    let literal-at· = c .before .literal-at in (
+      pre· .0,
+      (
+        pre· .1 .1 .0,
+        subst (λ (l : ℕ). l / 2 < args· .size) (sym (literal-at· .ensures))
+            (literal-inside (args· .size) (args· .x) (args· .y) (args· .z) (pre· .1 .1 .0) (pre· .1 .1 .1) (pre· .1 .1 .2)
+            (getD zNames (args· .pattern / 35) own-z)),
+      ),
+    )
 
 literal-at-requires-2 : tie.Need-literal-at-requires-2
 literal-at-requires-2 c κs = search needs
@@ -29,8 +36,15 @@ join-requires-2 c κs =
     let join· = c .before .before .join in
     let pre· = c .before .before .before .before .before .pre in
     let args· = c .before .before .before .before .before .args in
-    let literal-at2· = c .before .literal-at2 in
-    (join· .ensures .classes, (pre· .1 .1 .1, subst (λ (l : ℕ). l / 2 < args· .size) (sym (literal-at2· .ensures)) (literal-inside (args· .size) (args· .x) (args· .y) (args· .z) (pre· .1 .1 .0) (pre· .1 .1 .1) (pre· .1 .1 .2) (getD zNames (args· .pattern / 7 % 5) own-z))))
+    let literal-at2· = c .before .literal-at2 in (
+      join· .ensures .classes,
+      (
+        pre· .1 .1 .1,
+        subst (λ (l : ℕ). l / 2 < args· .size) (sym (literal-at2· .ensures))
+            (literal-inside (args· .size) (args· .x) (args· .y) (args· .z) (pre· .1 .1 .0) (pre· .1 .1 .1) (pre· .1 .1 .2)
+            (getD zNames (args· .pattern / 7 % 5) own-z)),
+      ),
+    )
 
 literal-at-requires-3 : tie.Need-literal-at-requires-3
 literal-at-requires-3 c κs = search needs
@@ -40,8 +54,15 @@ join-requires-3 c κs =
     let join2· = c .before .before .join2 in
     let pre· = c .before .before .before .before .before .before .before .before .pre in
     let args· = c .before .before .before .before .before .before .before .before .args in
-    let literal-at3· = c .before .literal-at3 in
-    (join2· .ensures .classes, (pre· .1 .1 .2, subst (λ (l : ℕ). l / 2 < args· .size) (sym (literal-at3· .ensures)) (literal-inside (args· .size) (args· .x) (args· .y) (args· .z) (pre· .1 .1 .0) (pre· .1 .1 .1) (pre· .1 .1 .2) (getD zNames (args· .pattern % 7) own-z))))
+    let literal-at3· = c .before .literal-at3 in (
+      join2· .ensures .classes,
+      (
+        pre· .1 .1 .2,
+        subst (λ (l : ℕ). l / 2 < args· .size) (sym (literal-at3· .ensures))
+            (literal-inside (args· .size) (args· .x) (args· .y) (args· .z) (pre· .1 .1 .0) (pre· .1 .1 .1) (pre· .1 .1 .2)
+            (getD zNames (args· .pattern % 7) own-z)),
+      ),
+    )
 
 returns : tie.Need-returns
 returns c =

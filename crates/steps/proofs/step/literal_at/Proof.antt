@@ -27,7 +27,8 @@ returns-4 c =
     let turned· = c .turned in
     let args· = c .before .before .before .before .before .args in
     let if4· = c .before .if4 in
-    turned· .ensures ∙ signed-odd (args· .x) 1 refl ∙ sym (ap (λ (k : ℕ). literalAt (args· .x) (args· .y) (args· .z) (getD zNames k own-z)) (if4· .taken))
+    turned· .ensures ∙ signed-odd (args· .x) 1 refl ∙ sym (ap (λ (k : ℕ). literalAt (args· .x) (args· .y) (args· .z) (getD zNames k own-z))
+    (if4· .taken))
 
 returns-5 : tie.Need-returns-5
 returns-5 c = search needs
@@ -40,7 +41,8 @@ returns-6 c =
     let turned2· = c .turned2 in
     let args· = c .before .before .before .before .before .before .before .args in
     let if6· = c .before .if6 in
-    turned2· .ensures ∙ signed-odd (args· .y) 1 refl ∙ sym (ap (λ (k : ℕ). literalAt (args· .x) (args· .y) (args· .z) (getD zNames k own-z)) (if6· .taken))
+    turned2· .ensures ∙ signed-odd (args· .y) 1 refl ∙ sym (ap (λ (k : ℕ). literalAt (args· .x) (args· .y) (args· .z) (getD zNames k own-z))
+    (if6· .taken))
 
 returns-7 : tie.Need-returns-7
 returns-7 c =

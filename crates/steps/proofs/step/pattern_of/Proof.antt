@@ -41,7 +41,16 @@ add-result-2 c =
     let y-place· = c .before .y-place in
     let z-place· = c .z-place in
     let args· = c .before .before .before .args in
-    omega (arith, x-place· .ensures, y-place· .ensures, z-place· .ensures, x-most (args· .a), y-most (args· .a) (args· .b), z-most (args· .a) (args· .b) (args· .c))
+    omega (
+      arith,
+      x-place· .ensures,
+      y-place· .ensures,
+      z-place· .ensures,
+      x-most (args· .a),
+      y-most (args· .a) (args· .b),
+      z-most (args· .a)
+          (args· .b) (args· .c),
+    )
 
 cast-result : tie.Need-cast-result
 cast-result c = search needs
@@ -52,7 +61,19 @@ returns c =
     let y-place· = c .before .y-place in
     let z-place· = c .z-place in
     let args· = c .before .before .before .args in
-    record { names = ap₂ _+_ (ap₂ (λ (i j : ℕ). 35 * i + 7 * j) (x-place· .ensures) (y-place· .ensures)) (z-place· .ensures); below = omega (arith, x-place· .ensures, y-place· .ensures, z-place· .ensures, x-most (args· .a), y-most (args· .a) (args· .b), z-most (args· .a) (args· .b) (args· .c)) }
+    record {
+      names = ap₂ _+_ (ap₂ (λ (i j : ℕ). 35 * i + 7 * j) (x-place· .ensures) (y-place· .ensures)) (z-place· .ensures);
+      below = omega (
+        arith,
+        x-place· .ensures,
+        y-place· .ensures,
+        z-place· .ensures,
+        x-most (args· .a),
+        y-most (args· .a) (args· .b),
+        z-most (args· .a) (args· .b)
+            (args· .c),
+      );
+    }
 
 pub pattern-of-spec : {M : Type 1} → statement M
 pattern-of-spec =

@@ -30,8 +30,10 @@ returns c =
     let apart· = c .before .apart in
     let if1· = c .if1 in
     let pre· = c .before .before .before .before .before .before .before .before .pre in
-    let pat : Patterned (lead (at (args· .of .now)) (args· .x)) (lead (at (args· .of .now)) (args· .y)) (lead (at (args· .of .now)) (args· .z)) 104 = patterned (lead· .ensures .leads) (lead2· .ensures .leads) (lead3· .ensures .leads) (apart· .ensures (if1· .taken)) in
-    stepped-none (args· .size) (args· .kind) (args· .x) (args· .y) (args· .z) 104 (args· .of .now) (pre· .1 .0) pat (entry-own (args· .kind) (pre· .1 .1 .kinds))
+    let pat : Patterned (lead (at (args· .of .now)) (args· .x)) (lead (at (args· .of .now)) (args· .y)) (lead (at (args· .of .now)) (args· .z)) 104 =
+    patterned (lead· .ensures .leads) (lead2· .ensures .leads) (lead3· .ensures .leads) (apart· .ensures (if1· .taken)) in
+    stepped-none (args· .size) (args· .kind) (args· .x) (args· .y) (args· .z) 104 (args· .of .now) (pre· .1 .0) pat
+    (entry-own (args· .kind) (pre· .1 .1 .kinds))
 
 pattern-of-requires : tie.Need-pattern-of-requires
 pattern-of-requires c κs = search needs
@@ -52,8 +54,10 @@ returns-2 c =
     let pre· = c .before .before .before .before .before .before .before .before .before .before .before .pre in
     let entry-of· = c .before .entry-of in
     let if2· = c .if2 in
-    let pat : Patterned (lead (at (args· .of .now)) (args· .x)) (lead (at (args· .of .now)) (args· .y)) (lead (at (args· .of .now)) (args· .z)) (pattern-of· .result) = patterned (lead· .ensures .leads) (lead2· .ensures .leads) (lead3· .ensures .leads) (pattern-of· .ensures) in
-    stepped-none (args· .size) (args· .kind) (args· .x) (args· .y) (args· .z) (pattern-of· .result) (args· .of .now) (pre· .1 .0) pat (sym (entry-of· .ensures) ∙ if2· .taken)
+    let pat : Patterned (lead (at (args· .of .now)) (args· .x)) (lead (at (args· .of .now)) (args· .y)) (lead (at (args· .of .now)) (args· .z))
+    (pattern-of· .result) = patterned (lead· .ensures .leads) (lead2· .ensures .leads) (lead3· .ensures .leads) (pattern-of· .ensures) in
+    stepped-none (args· .size) (args· .kind) (args· .x) (args· .y) (args· .z) (pattern-of· .result) (args· .of .now) (pre· .1 .0) pat
+    (sym (entry-of· .ensures) ∙ if2· .taken)
 
 join-requires : tie.Need-join-requires
 join-requires c κs = search needs
@@ -69,8 +73,10 @@ returns-3 c =
     let join· = c .join in
     let entry-of· = c .before .before .before .before .entry-of in
     let if3· = c .before .before .if3 in
-    let pat : Patterned (lead (at (args· .of .now)) (args· .x)) (lead (at (args· .of .now)) (args· .y)) (lead (at (args· .of .now)) (args· .z)) (pattern-of· .result) = patterned (lead· .ensures .leads) (lead2· .ensures .leads) (lead3· .ensures .leads) (pattern-of· .ensures) in
-    stepped-broken (args· .size) (args· .kind) (args· .x) (args· .y) (args· .z) (pattern-of· .result) (args· .of .now) (pre· .1 .0) pat (join· .last .0) (sym (entry-of· .ensures) ∙ if3· .taken) (join· .ensures)
+    let pat : Patterned (lead (at (args· .of .now)) (args· .x)) (lead (at (args· .of .now)) (args· .y)) (lead (at (args· .of .now)) (args· .z))
+    (pattern-of· .result) = patterned (lead· .ensures .leads) (lead2· .ensures .leads) (lead3· .ensures .leads) (pattern-of· .ensures) in
+    stepped-broken (args· .size) (args· .kind) (args· .x) (args· .y) (args· .z) (pattern-of· .result) (args· .of .now) (pre· .1 .0) pat
+    (join· .last .0) (sym (entry-of· .ensures) ∙ if3· .taken) (join· .ensures)
 
 hold-requires : tie.Need-hold-requires
 hold-requires c κs =
@@ -78,8 +84,14 @@ hold-requires c κs =
     let entry-of· = c .before .before .before .entry-of in
     let args· = c .before .before .before .before .before .before .before .before .before .before .before .before .before .args in
     let pattern-of· = c .before .before .before .before .pattern-of in
-    let if3· = c .before .if3 in
-    (pre· .1 .0, (subst (λ (e : ℕ). e < 105) (sym (entry-of· .ensures)) (entry-below (args· .kind) (pattern-of· .result) (λ e. if3· .left (entry-of· .ensures ∙ e))), (pre· .1 .1 .of-x, pre· .1 .1 .of-y, pre· .1 .1 .of-z)))
+    let if3· = c .before .if3 in (
+      pre· .1 .0,
+      (
+        subst (λ (e : ℕ). e < 105) (sym (entry-of· .ensures))
+            (entry-below (args· .kind) (pattern-of· .result) (λ e. if3· .left (entry-of· .ensures ∙ e))),
+        (pre· .1 .1 .of-x, pre· .1 .1 .of-y, pre· .1 .1 .of-z),
+      ),
+    )
 
 returns-4 : tie.Need-returns-4
 returns-4 c =
@@ -92,9 +104,12 @@ returns-4 c =
     let hold· = c .hold in
     let if3· = c .before .before .if3 in
     let entry-of· = c .before .before .before .before .entry-of in
-    let pat : Patterned (lead (at (args· .of .now)) (args· .x)) (lead (at (args· .of .now)) (args· .y)) (lead (at (args· .of .now)) (args· .z)) (pattern-of· .result) = patterned (lead· .ensures .leads) (lead2· .ensures .leads) (lead3· .ensures .leads) (pattern-of· .ensures) in
-    stepped-named (args· .size) (args· .kind) (args· .x) (args· .y) (args· .z) (pattern-of· .result) (args· .of .now) (pre· .1 .0) pat (hold· .last .0) (λ e. if3· .left (entry-of· .ensures ∙ e))
-    (subst (λ (e : ℕ). Named (args· .size) e (args· .x) (args· .y) (args· .z) (args· .of .now) (hold· .last .0)) (entry-of· .ensures) (hold· .ensures))
+    let pat : Patterned (lead (at (args· .of .now)) (args· .x)) (lead (at (args· .of .now)) (args· .y)) (lead (at (args· .of .now)) (args· .z))
+    (pattern-of· .result) = patterned (lead· .ensures .leads) (lead2· .ensures .leads) (lead3· .ensures .leads) (pattern-of· .ensures) in
+    stepped-named (args· .size) (args· .kind) (args· .x) (args· .y) (args· .z) (pattern-of· .result) (args· .of .now) (pre· .1 .0) pat
+    (hold· .last .0) (λ e. if3· .left (entry-of· .ensures ∙ e))
+    (subst (λ (e : ℕ). Named (args· .size) e (args· .x) (args· .y) (args· .z) (args· .of .now) (hold· .last .0)) (entry-of· .ensures)
+    (hold· .ensures))
 
 pub step-spec : {M : Type 1} → statement M
 step-spec =

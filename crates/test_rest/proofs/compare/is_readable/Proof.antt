@@ -76,8 +76,13 @@ loop-again c =
     let args· = c .before .before .before .before .before .before .before .before .before .before .args in
     let loop· = c .before .before .before .before .before .before .loop in
     let is-known· = c .before .is-known in
-    let if3· = c .if3 in
-    (omega arith, omega arith, omega arith, known-next (args· .list .now) (loop· .j) (loop· .inv .3) (is-known· .ensures (not-false (is-known· .result) (if3· .left))))
+    let if3· = c .if3 in (
+      omega arith,
+      omega arith,
+      omega arith,
+      known-next (args· .list .now) (loop· .j) (loop· .inv .3)
+          (is-known· .ensures (not-false (is-known· .result) (if3· .left))),
+    )
 
 returns-4 : tie.Need-returns-4 Inv-loop μ-loop
 returns-4 c =

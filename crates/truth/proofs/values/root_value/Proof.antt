@@ -31,8 +31,12 @@ loop-holds : tie.Need-loop-holds Inv-loop μ-loop
 loop-holds c =
     let args· = c .before .before .before .before .args in
     let pre· = c .before .before .before .before .pre in
-    let set-flags· = c .before .set-flags in
-    (valued-none (args· .n) (args· .state) (args· .count) (args· .root) (args· .triplets .now) (pre·) _ _ (set-flags· .ensures), search needs, omega arith)
+    let set-flags· = c .before .set-flags in (
+      valued-none (args· .n) (args· .state) (args· .count) (args· .root) (args· .triplets .now) (pre·) _ _ (set-flags· .ensures),
+      search needs,
+      omega
+          arith,
+    )
 
 slice-aggregate-triplet-value : tie.Need-slice-aggregate-triplet-value Inv-loop μ-loop
 slice-aggregate-triplet-value c = search needs
@@ -43,7 +47,8 @@ triplet-value-requires c κs =
     let pre· = c .before .before .before .before .before .before .before .pre in
     let loop· = c .before .before .loop in
     let loop-test· = c .before .loop-test in
-    operands-known (args· .n) (args· .state) (args· .count) (args· .root) (args· .triplets .now) (pre·) (loop· .j) _ (loop-test· .taken) (loop· .inv .1)
+    operands-known (args· .n) (args· .state) (args· .count) (args· .root) (args· .triplets .now) (pre·) (loop· .j) _ (loop-test· .taken)
+    (loop· .inv .1)
 
 add-values : tie.Need-add-values Inv-loop μ-loop
 add-values c =
@@ -82,7 +87,8 @@ loop-again c =
     let loop· = c .before .before .before .loop in
     let loop-test· = c .before .before .loop-test in
     let triplet-value· = c .triplet-value in
-    valued-set (args· .n) (args· .state) (args· .count) (args· .root) (args· .triplets .now) (pre·) (loop· .j) _ _ _ (loop-test· .taken) (loop· .inv .0) (omega arith) (loop· .inv .1) (triplet-value· .ensures)
+    valued-set (args· .n) (args· .state) (args· .count) (args· .root) (args· .triplets .now) (pre·) (loop· .j) _ _ _ (loop-test· .taken)
+    (loop· .inv .0) (omega arith) (loop· .inv .1) (triplet-value· .ensures)
 
 slice-aggregate-literal-value : tie.Need-slice-aggregate-literal-value Inv-loop μ-loop
 slice-aggregate-literal-value c = search needs
@@ -102,7 +108,8 @@ returns c =
     let literal-value· = c .literal-value in
     let pre· = c .before .before .before .before .before .before .before .before .pre in
     let e : loop· .j ≡ args· .count = omega (arith, loop-test· .left, loop· .inv .2) in
-    literal-value· .ensures ∙ root-set (args· .n) (args· .state) (args· .count) (args· .root) (args· .triplets .now) (pre·) _ (rw e at (loop· .inv .0))
+    literal-value· .ensures ∙ root-set (args· .n) (args· .state) (args· .count) (args· .root) (args· .triplets .now) (pre·) _
+    (rw e at (loop· .inv .0))
 
 pub root-value-spec : {M : Type 1} → statement M
 root-value-spec =

@@ -61,8 +61,12 @@ loop-again c =
     let args· = c .before .before .args in
     let loop· = c .before .loop in
     let loop-test· = c .loop-test in
-    let pre· = c .before .before .pre in
-    (flags-more (args· .n) (args· .state) (loop· .i) _ (loop· .values) _ (loop· .inv .0) (omega (arith, loop-test· .taken, pre·, loop· .inv .0 .long, length-set (args· .values .now) 0 true)) (bit-read (args· .state) _), omega (arith, loop-test· .taken))
+    let pre· = c .before .before .pre in (
+      flags-more (args· .n) (args· .state) (loop· .i) _ (loop· .values) _ (loop· .inv .0)
+          (omega (arith, loop-test· .taken, pre·, loop· .inv .0 .long, length-set (args· .values .now) 0 true)) (bit-read (args· .state) _),
+      omega
+          (arith, loop-test· .taken),
+    )
 
 same-length : tie.Need-same-length Inv-loop μ-loop
 same-length c =
