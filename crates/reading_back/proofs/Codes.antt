@@ -14,6 +14,7 @@ use Rattle.notation.specs.Guard.{Guard, flag, truth, negated, joined}
 use Rattle.notation.specs.Grammar.{number}
 use Rattle.ground.proofs.Cases.{either, split-eq}
 use Rattle.reading_back.specs.Written.{among, met, placeIn, Placed, EachPlaced}
+use Rattle.notation.proofs.Keys.{same-self}
 
 -- two codes that are the same have the same bytes
 same-bytes : (c d : Code) → sameCode c d ≡ true → c ≡ d
@@ -26,12 +27,6 @@ same-bytes (a ∷ c) (b ∷ d) h =
     (λ (e : a ≡ b). let t : sameCode c d ≡ true = rw (eq-eqb a b e) at h in let r : c ≡ d = same-bytes c d t in cc)
     (λ (n : a ≡ b → ⊥). let t : false ≡ true = rw (ne-eqb a b n) at h in absurd (false≢true t))
     (split-eq a b)
-
--- a code is the same as itself
-pub same-self : (c : Code) → sameCode c c ≡ true
-unfolding sameCode
-same-self [] = refl
-same-self (a ∷ c) = rw (eq-eqb a a refl) (same-self c)
 
 -- the list all begins with w
 pub record Begins (w all : List ℕ) : Type 0 where

@@ -13,7 +13,7 @@ use Rattle.notation.specs.Grammar.{number}
 use Rattle.ground.proofs.Cases.{either}
 use Rattle.notation.proofs.Coding.{known-number, number-append, number-here}
 use Rattle.notation.proofs.Numbered.{seen-fine}
-use Rattle.reading_back.proofs.Codes.{same-self}
+use Rattle.notation.proofs.Keys.{same-self}
 use Rattle.text_laws.specs.Texts.{codeOf, seenAt, seenIn, IsFlag}
 
 -- ---- the number of a code
