@@ -62,10 +62,21 @@ def lines_of(path):
     return sum(1 for line in lines if line and not line.startswith(("--", "use ")))
 
 
+def stands_on(path):
+    """The files of definitions that one brings in by its use lines, the types that code declares apart."""
+    for crate, module in re.findall(r"^use Rattle·([a-z_]+)(?:·specs)?\.specs\.([A-Za-z.]+)", read(os.path.join("crates", path)), re.M):
+        parts = [part for part in module.split(".") if part]
+        found = (f"{crate}/specs/{'/'.join(parts[:end])}.antt" for end in range(len(parts), 0, -1))
+        yield from [file for file in found if parts[0] != "declared" and there(file)][:1]
+
+
 def believed(text):
-    totals = {"": 0}
+    totals, files = {"": 0}, {"": set()}
     for what, base, cell, total in BELIEVED.findall(text):
         counted = [(path, int(lines)) for path, lines in COUNTED.findall(cell)]
+        files[what] = files[base] | {path for path, _ in counted}
+        for path in files[what]:
+            yield f"{what}: all that {path} stands on", set(stands_on(path)) <= files[what]
         for path, lines in counted:
             yield f"{what}: {path} with {lines} lines", there(path) and lines_of(path) == lines
         totals[what] = totals[base] + sum(lines for _, lines in counted)

@@ -1,4 +1,4 @@
--- What parse, read and name answer, and what the lent tables and the room then hold.
+-- What read and name answer, and what the room then holds.
 use Prim.Native.Nat.{ℕ, zero, suc, _+_, _*_}
 use mathlib.Core.Path.{_≡_}
 use mathlib.Core.List.{List, [], _∷_, _++_}
@@ -9,7 +9,6 @@ use Rattle.notation.specs.Walk.{Flag}
 use Rattle.notation.specs.Guard.{Guard, connectives}
 use Rattle.notation.specs.Triplets.{literal, triplets, numbers}
 use Rattle.notation.specs.Reading.{Reading, refusal, guard, reading}
-use Rattle.operands.specs.contracts.Steps.{Part}
 use Rattle.reading.specs.declared.parse.Parsed.{Parsed}
 use Rattle.reading.specs.declared.parse.Parsed.the-variants as parsed
 use Rattle.reading.specs.declared.name.Named.{Named}
