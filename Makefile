@@ -1,5 +1,5 @@
 # make            proves and builds the program and the archive for C
-# make example    builds the example importer and the example for packs; CC is a compiler for x86-64, as the archive is
+# make example    builds the example importer; CC is a compiler for x86-64, as the archive is
 # make install    puts the program, archive, header, pkg-config file and manual page below PREFIX (DESTDIR is put before it)
 # make check      runs the gate
 PREFIX ?= /usr/local
@@ -21,7 +21,6 @@ all:
 
 example: all
 	$(CC) $(CFLAGS) -std=c99 -Wall -Wextra -Iinclude -o target/importer examples/importer.c $(archive)
-	$(CC) $(CFLAGS) -std=c99 -Wall -Wextra -Iinclude -o target/packs examples/packs.c $(archive)
 
 install: all
 	install -d "$(to)/bin" "$(to)/lib/pkgconfig" "$(to)/include" "$(to)/share/man/man1"

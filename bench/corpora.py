@@ -5,7 +5,6 @@ quest     the guards of single variants, as writers make them
 lines     whole lines: the variants of a decision tree joined, some with a variant missing
 proofs    tautologies of the textbooks: transitivity, pigeonholes, parity in two orders
 wide      24 flags and 255 connectives at random
-packs1, packs4, packs16   line packs of so many variants, in hexadecimal: a rule, and variants that exclude each other, or nearly
 """
 import os
 import random
@@ -90,25 +89,6 @@ def wide(rng):
             return text
 
 
-def field(tag, body):
-    return bytes((tag, len(body) >> 8, len(body) & 255)) + body.encode()
-
-
-def pack(rng, variants):
-    """A line whose variants are the leaves of a decision tree, in some order; in some lines one leaf is missing or stands twice."""
-    codes = rng.sample(CODES, max(variants - 1, 1).bit_length() + 2)
-    leaves = [[]]
-    while len(leaves) < variants:
-        leaf = leaves.pop(rng.randrange(len(leaves)))
-        code = codes[len(leaf)]
-        leaves += [leaf + [code], leaf + ["!" + code]] if len(leaf) + 1 < len(codes) else [leaf]
-    if variants > 1 and rng.random() < 0.3:
-        leaves[0] = leaves[1]
-    texts = ["&".join(leaf) or "#1" for leaf in leaves]
-    made = field(1, "line.%d" % rng.randrange(10**6)) + field(2, f"{codes[-1]}|{codes[0]}>{codes[-1]}")
-    return made + b"".join(field(3, text) + field(4, "Something is said here.") for text in texts)
-
-
 def flags(text):
     for sign in "!&|>=()":
         text = text.replace(sign, " ")
@@ -127,9 +107,6 @@ def main(seed, folder):
     for name, guards in corpora.items():
         with open(os.path.join(folder, name + ".txt"), "w") as out:
             out.writelines(f"{flags(guard)} {guard}\n" for guard in guards)
-    for variants, many in ((1, 200), (4, 100), (16, 40)):
-        with open(os.path.join(folder, f"packs{variants}.txt"), "w") as out:
-            out.writelines(f"0 {pack(rng, variants).hex()}\n" for _ in range(many))
 
 
 if __name__ == "__main__":

@@ -1,7 +1,6 @@
 #!/usr/bin/env python3
 """measure.py DIR: measures the programs that bench/run has built in DIR, in x86-64 instructions, and prints the tables.
 measure.py DIR rest FILE..: measures rest on other guards, one a line.
-measure.py DIR why: measures why alone.
 
 The count is of one pass over a corpus, less the same program's pass that calls nothing. It repeats under any load.
 """
@@ -14,21 +13,13 @@ import sys
 import corpora
 
 CORPORA = ("quest", "lines", "proofs", "wide")
-PACKS = ("packs1", "packs4", "packs16")
 # the plain program needs 2,571 million instructions for each of these guards
 LEFT_OUT = {("check", "2", "wide")}
-# how much of n searches for a first gap why may cost
-MOST = 1.5
 SERVICES = [("read",), ("name",), ("evaluate",), ("list",), ("check", "0"), ("check", "1"), ("check", "2"), ("check", "n")]
 
 
 def run(*command):
     return subprocess.run(command, check=True, capture_output=True, text=True)
-
-
-def emulated(*command):
-    """What a command prints."""
-    return run(*command if platform.machine() == "x86_64" else ("qemu-x86_64", *command)).stdout
 
 
 def instructions(*command):
@@ -45,7 +36,7 @@ def instructions(*command):
 def cost(program, corpus, service):
     """The instructions of a service over a corpus, and the program's answer line."""
     mode = [service[0], corpus] + [depth.replace("n", "99") for depth in service[1:]]
-    idle, _ = instructions(program, "packnothing" if service[0].startswith("pack") else "nothing", corpus)
+    idle, _ = instructions(program, "nothing", corpus)
     busy, said = instructions(program, *mode)
     return busy - idle, said
 
@@ -75,46 +66,12 @@ def services(folder):
     return table("service", ((" ".join(service), name, both(folder, name, service)) for service, name in measured))
 
 
-def packs(folder):
-    """A row for each corpus of packs and depth, and one for what reading a pack costs beside reading its guards one by one."""
-    asked = [(depth, name) for depth in ("0", "1", "24") for name in PACKS]
-    agree = table("pack at", ((depth, name, both(folder, name, ("pack", depth))) for depth, name in asked))
-    print(f"\n{'reading':10} {'corpus':14} {'packs':>6} {'its guards alone':>17} {'the pack':>13} {'ratio':>6}")
-    for name in PACKS:
-        program, corpus = os.path.join(folder, "ours"), os.path.join(folder, name + ".txt")
-        alone, said = cost(program, corpus, ("packguards",))
-        whole, _ = cost(program, corpus, ("packread",))
-        many = int(said.split()[0])
-        print(f"{'':10} {name:14} {many:6} {alone / many:17,.0f} {whole / many:13,.0f} {whole / alone:6.2f}", flush=True)
-    return agree
-
-
 def rest(folder, names):
     """A row for each corpus: check at depth 0 less read, which is what joining, rest and the trial of the flags cost."""
     def row(name):
         check, read = both(folder, name, ("check", "0")), both(folder, name, ("read",))
         return "", name, (check[0] - read[0], check[1] - read[1], check[2], check[3] and read[3])
     return table("rest", (row(name) for name in names))
-
-
-def reasons(folder):
-    """A row for each corpus: why, asked of the first gap, beside a search for a first gap once for each flag. Answers whether it is at most
-    MOST times as dear on each. What reading costs is taken off both."""
-    print(f"{'why':10} {'corpus':14} {'guards':>6} {'n searches, a guard':>20} {'why':>13} {'ratio':>6}")
-    program, within = os.path.join(folder, "reasons"), True
-    for name in CORPORA:
-        corpus = os.path.join(folder, name + "-gaps.txt")
-        with open(corpus, "w") as out:
-            out.write(emulated(program, "gaps", os.path.join(folder, name + ".txt")))
-        costs = {mode: cost(program, corpus, (mode,)) for mode in ("read", "reads", "gap", "searches", "why")}
-        guards = int(costs["why"][1].split()[0])
-        if guards == 0:
-            continue
-        searches = costs["searches"][0] - costs["reads"][0]
-        why = costs["why"][0] - costs["gap"][0] - costs["read"][0]
-        print(f"{'':10} {name:14} {guards:6} {searches / guards:20,.0f} {why / guards:13,.0f} {why / searches:6.2f}", flush=True)
-        within = within and why <= MOST * searches
-    return within
 
 
 def taken_in(folder, path):
@@ -128,12 +85,6 @@ def taken_in(folder, path):
 if __name__ == "__main__":
     if sys.argv[2:3] == ["rest"]:
         sys.exit(0 if rest(sys.argv[1], [taken_in(sys.argv[1], path) for path in sys.argv[3:]]) else 1)
-    if sys.argv[2:3] == ["why"]:
-        sys.exit(0 if reasons(sys.argv[1]) else 1)
     rests = rest(sys.argv[1], CORPORA)
     print()
-    served = services(sys.argv[1])
-    print()
-    packed = packs(sys.argv[1])
-    print()
-    sys.exit(0 if reasons(sys.argv[1]) and packed and served and rests else 1)
+    sys.exit(0 if services(sys.argv[1]) and rests else 1)

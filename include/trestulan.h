@@ -5,14 +5,14 @@
  * ( ) and #0, #1 for false and true; spaces may stand between them. Flags are numbered 1 to n by first appearance.
  * A state is a number below 2^n: the first flag is its highest bit, the last its lowest.
  *
- * Each entry for guards answers one number, kind x 2^32 + payload. Kind 3 is a refusal in each of them, with the payload
- * wanted x 2^24 + number x 2^16 + place; what an entry for packs answers is told there. No entry keeps a pointer, allocates, or has a state
- * of its own; several threads may call at once. Nothing outside the lent memory is read or written, and a refusal leaves lent memory as it was.
+ * Each entry answers one number, kind x 2^32 + payload. Kind 3 is a refusal in every entry, with the payload
+ * number x 2^16 + place. No entry keeps a pointer, allocates, or has a state of its own; several threads may call
+ * at once. Nothing outside the lent memory is read or written, and a refusal leaves lent memory as it was.
  * A pointer is never null, not even with the length 0; memory that is written does not overlap the text.
  *
  * Before version 1.0 these stay as they are: the entries' names and parameters, kinds and payloads, the numbers of refusals and what each
- * means. Further entries, kinds, refusals and numbers of what was wanted may come, and ceilings may rise: take an answer apart by the functions
- * below, and treat a kind or a number that you do not know as not covered.
+ * means. Further entries, kinds and refusals may come, ceilings may rise, and a refusal may come to say more in the payload's bits from 24
+ * up: take an answer apart by the functions below, and treat a kind or a number that you do not know as not covered.
  *
  * An entry takes at most so much of the calling thread's stack as its constant TRESTULAN_STACK_.. names, whatever the text and the number;
  * TRESTULAN_STACK is enough for every entry.
@@ -36,10 +36,10 @@ extern "C" {
 #define TRESTULAN_DONE 0u /* payload: how many states were written, and there are no more */
 #define TRESTULAN_MORE 1u /* payload: the next gap; the slice is full */
 
-/* The kind of what read, name and why answer where they do not refuse. */
+/* The kind of what read and name answer where they do not refuse. */
 #define TRESTULAN_FOUND 0u
 
-/* The kind of a refusal, in every entry for guards. */
+/* The kind of a refusal, in every entry. */
 #define TRESTULAN_REFUSED 3u
 
 /* Numbers of refusals, with the place that each has. */
@@ -54,18 +54,9 @@ extern "C" {
 #define TRESTULAN_NO_SUCH_STATE 9u      /* state or start not below 2^n: at 0 */
 #define TRESTULAN_ROOM_TOO_SMALL 10u    /* read: room under 3 numbers a triplet: at 0 */
 #define TRESTULAN_NO_SUCH_FLAG 11u      /* name: flag number 0 or over n: at 0 */
-#define TRESTULAN_BROKEN_PACK 13u       /* a field out of order, unknown or cut short: at that field; one that is missing: at the pack's length */
-#define TRESTULAN_VARIANTS 14u          /* no variant: at the pack's length; a 17th: at its field */
-#define TRESTULAN_ID_LENGTH 15u         /* an id of no byte or of over 16: at its field */
-#define TRESTULAN_NOT_A_GAP 16u         /* why: the guard is true in the state: at 0 */
-
-/* What was wanted at the place of a MISPLACED; 0 with every other refusal. */
-#define TRESTULAN_WANTED_OPERAND 1u         /* an operand: a code, #0, #1, ! or an opening bracket */
-#define TRESTULAN_WANTED_SIGN_OR_CLOSING 2u /* after an operand, where a bracket is open: a connective or a closing bracket */
-#define TRESTULAN_WANTED_SIGN_OR_END 3u     /* after an operand, where none is open: a connective or the guard's end */
 
 /* The version of this header and of the archive that it came with. */
-#define TRESTULAN_VERSION "0.1.3"
+#define TRESTULAN_VERSION "0.1.0"
 
 /* Bytes of stack that each entry keeps within, for every text and number; measured on the worst texts known. */
 #define TRESTULAN_STACK_READ 40960u
@@ -74,10 +65,7 @@ extern "C" {
 #define TRESTULAN_STACK_CHECK_2 49152u /* check at depths 0 to 2 */
 #define TRESTULAN_STACK_CHECK 122880u  /* check at every depth */
 #define TRESTULAN_STACK_LIST 122880u
-#define TRESTULAN_STACK_WHY 122880u
-#define TRESTULAN_STACK_PACK_2 57344u /* check of a pack at depths 0 to 2 */
-#define TRESTULAN_STACK_PACK 131072u  /* check of a pack at every depth */
-#define TRESTULAN_STACK TRESTULAN_STACK_PACK
+#define TRESTULAN_STACK TRESTULAN_STACK_CHECK
 
 /* Ceilings. */
 #define TRESTULAN_MAX_TEXT 4096u
@@ -87,8 +75,6 @@ extern "C" {
 #define TRESTULAN_MAX_FLAGS 24u
 #define TRESTULAN_MAX_TRIPLETS 255u
 #define TRESTULAN_MAX_ROOM (3u * TRESTULAN_MAX_TRIPLETS) /* room that read never finds too small */
-#define TRESTULAN_MAX_ID 16u
-#define TRESTULAN_MAX_VARIANTS 16u
 
 /* Checks a guard at a depth of 0 to 24. A greater depth decides no guard less; a depth not below the number of flags decides every
  * guard. It does not always take longer: from the number of flags up the first gap is looked for directly, which is the cheapest on most
@@ -113,41 +99,6 @@ uint64_t trestulan_read(const void *text, size_t length, uint16_t *out, size_t r
  * Kinds: FOUND (payload start x 2^16 + length of its code), REFUSED. Stack: TRESTULAN_STACK_NAME. */
 uint64_t trestulan_name(const void *text, size_t length, uint64_t i);
 
-/* Which flags of a gap force it: gone through in order, a flag is dropped wherever every state that agrees with the gap on the others still
- * kept is a gap. Every state with the gap's values at the kept flags is a gap, and none of them can be left out. The lent number holds them
- * as a state holds the flags that are true: trestulan_flag_value(*kept, n, i) is 1 where flag i is kept; its value is the gap's. It needs
- * no depth. Refused where the number is no state, then where the state is no gap; the lent number then stays as it was.
- * Kinds: FOUND (payload 0), REFUSED. Stack: TRESTULAN_STACK_WHY. */
-uint64_t trestulan_why(const void *text, size_t length, uint64_t state, uint64_t *kept);
-
-/* ---- line packs
- *
- * A pack is fields of a one-byte tag, a two-byte length with the high byte first, and that many bytes: the line's id first (tag 1, 1 to 16
- * bytes), at most one rule next (tag 2, a guard), then 1 to 16 pairs of a variant (tag 3, a guard) and its text (tag 4). Flags are numbered
- * through the pack, and every state has all of them. No rule means #1. The ceilings of a guard hold for each guard and each question. */
-
-/* What stands in the lent numbers: the answer to whether one of the variants is there wherever the rule holds, and the first two variants,
- * by the lower and then the higher, that are not known to exclude each other wherever the rule holds. Kinds are those of check: a gap's
- * state, else 0. Variants are counted from 1; where all pairs are covered the last four numbers are 0. */
-#define TRESTULAN_WHOLE_KIND 0
-#define TRESTULAN_WHOLE_STATE 1
-#define TRESTULAN_PAIR_FIRST 2
-#define TRESTULAN_PAIR_SECOND 3
-#define TRESTULAN_PAIR_KIND 4
-#define TRESTULAN_PAIR_STATE 5
-#define TRESTULAN_PACK_ANSWERS 6 /* how many numbers are lent */
-
-/* Checks a pack at a depth of 0 to 24. Answers 0 and writes the six numbers, or answers a long refusal, which is never 0, and leaves them as
- * they were. Places count from the pack's first byte. Stack: TRESTULAN_STACK_PACK; at depths 0 to 2 TRESTULAN_STACK_PACK_2. */
-uint64_t trestulan_check_pack(const void *pack, size_t length, uint64_t depth, uint64_t answers[TRESTULAN_PACK_ANSWERS]);
-
-/* Of a long refusal, place x 2^16 + wanted x 2^8 + number: its number, what was wanted, and its place, of which the lower 48 bits are there. */
-static inline uint32_t trestulan_long_refusal_number(uint64_t answer) { return (uint32_t)(answer & 0xffu); }
-
-static inline uint32_t trestulan_long_refusal_wanted(uint64_t answer) { return (uint32_t)(answer >> 8) & 0xffu; }
-
-static inline uint64_t trestulan_long_refusal_place(uint64_t answer) { return answer >> 16; }
-
 /* ---- taking an answer apart */
 
 /* The kind of an answer. Evaluate's true and false are both of kind 0: look for a refusal, then at the number. */
@@ -157,10 +108,8 @@ static inline uint32_t trestulan_payload(uint64_t answer) { return (uint32_t)(an
 
 static inline int trestulan_is_refused(uint64_t answer) { return trestulan_kind(answer) == TRESTULAN_REFUSED; }
 
-/* Of a refusal: its number, what was wanted, and the place in the text, counted in bytes from 0. */
+/* Of a refusal: its number, and the place in the text, counted in bytes from 0. */
 static inline uint32_t trestulan_refusal_number(uint64_t answer) { return (trestulan_payload(answer) >> 16) & 0xffu; }
-
-static inline uint32_t trestulan_refusal_wanted(uint64_t answer) { return trestulan_payload(answer) >> 24; }
 
 static inline uint32_t trestulan_refusal_place(uint64_t answer) { return trestulan_payload(answer) & 0xffffu; }
 

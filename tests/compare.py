@@ -1,5 +1,5 @@
 #!/usr/bin/env python3
-"""Compares the entries for C with the programs tests/reference*.py on random guards and packs, valid and damaged.
+"""Compares the five entries for C with tests/reference.py on random guards, valid and damaged.
 
     python3 tests/compare.py COUNT COMMAND..    COMMAND runs the program made of tests/c/piped.c, which answers over a pipe
 """
@@ -9,8 +9,6 @@ import sys
 
 import guards
 import reference
-import reference_packs
-import reference_why
 
 MORE = 1  # a kind: the upper half of an answer
 ROOM = 765
@@ -45,16 +43,6 @@ class Piped:
     def name(self, text, flag):
         return self.ask(b"n", text, flag, 0, "")[0]
 
-    def check_pack(self, pack, depth):
-        """The entry's number, and the six numbers that it handed out, which were zeros before."""
-        answer, _ = self.ask(b"p", pack, depth, 0, "")
-        return answer, list(struct.unpack("<6Q", self.program.stdout.read(48)))
-
-    def why(self, text, state):
-        """The entry's number, and the lent number, which was 0 before."""
-        answer, _ = self.ask(b"w", text, state, 0, "")
-        return answer, struct.unpack("<Q", self.program.stdout.read(8))[0]
-
     def end(self):
         self.program.stdin.close()
         return self.program.wait() == 0
@@ -88,11 +76,6 @@ def wanted_name(text, flag):
     return place << 16 | length
 
 
-def wanted_why(text, state):
-    number, kept = reference_why.numbers(text, state)
-    return number, kept or 0
-
-
 def questions(rng, large):
     """A question to each service. Of a large guard check is asked at the greatest depth alone."""
     beyond = rng.random() < 0.02
@@ -106,7 +89,6 @@ def questions(rng, large):
         "evaluate": state,
         "list": (start, rng.randrange(65)),
         "check": depth,
-        "why": state,
     }
 
 
@@ -122,8 +104,6 @@ def difference(services, text, asked):
         return "list"
     if services.check(text, asked["check"]) != reference.packed_check(text, asked["check"]):
         return "check"
-    if services.why(text, asked["why"]) != wanted_why(text, asked["why"]):
-        return "why"
     return None
 
 
@@ -149,26 +129,7 @@ def compare(services, count, seed):
     return differ
 
 
-def compare_packs(services, count, seed):
-    """How many of so many random packs are answered otherwise than by the reference; the first is printed."""
-    rng = guards.generator(seed)
-    differ = 0
-    for _ in range(count):
-        pack = reference_packs.random_pack(rng, guards)
-        # the naive saturation of a hundred pairs takes too long: large packs are asked at the greatest depth
-        depth = rng.choice((0, 1, 2, 24, 25)) if len(pack) < 200 else rng.choice((24, 24, 24, 25))
-        if rng.random() < 0.01:
-            depth = (1 << 64) - 1
-        number, handed = reference_packs.numbers(pack, depth)
-        if services.check_pack(pack, depth) != (number, handed or [0] * 6):
-            if not differ:
-                print(f"first difference: {pack!r} at {depth}: not {number}, {handed}")
-            differ += 1
-    print(f"{count} packs, {differ} answered otherwise than by the reference")
-    return differ
-
-
 if __name__ == "__main__":
     piped = Piped(sys.argv[2:])
-    differed = compare(piped, int(sys.argv[1]), 7) + compare_packs(piped, int(sys.argv[1]), 11)
+    differed = compare(piped, int(sys.argv[1]), 7)
     sys.exit(0 if piped.end() and not differed else 1)

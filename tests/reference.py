@@ -18,13 +18,12 @@ CODE_BYTES = frozenset(b"ABCDEFGHIJKLMNOPQRSTUVWXYZabcdefghijklmnopqrstuvwxyz012
 
 
 class Refused(Exception):
-    """A refusal: its number and its place, and with 5 what was wanted there."""
+    """A refusal: its number and its place."""
 
-    def __init__(self, number, place=0, wanted=0):
-        super().__init__(number, place, wanted)
+    def __init__(self, number, place=0):
+        super().__init__(number, place)
         self.number = number
         self.place = place
-        self.wanted = wanted
 
 
 # Reading
@@ -49,12 +48,76 @@ def token_at(text, place):
     return chr(byte), place + 1
 
 
-class Tree:
-    """Flags and items in postfix order: what a guard means."""
+class Guard:
+    """An accepted text: its flags in order of appearance, with their places, and its items in postfix order."""
 
-    def __init__(self, flags, items):
-        self.flags = flags
-        self.items = items
+    def __init__(self, text):
+        if len(text) > TEXT:
+            raise Refused(1, TEXT)
+        self.flags = []
+        self.places = []
+        self.items = []
+        self.waiting = []  # signs and open brackets whose right side is not complete
+        self.brackets = 0
+        self.connectives = 0
+        wanted = True  # whether an operand is wanted
+        place = 0
+        while place < len(text):
+            if text[place] == 0x20:
+                place += 1
+                continue
+            token, end = token_at(text, place)
+            wanted = self.take(token, place, wanted)
+            place = end
+        if wanted or self.brackets:
+            raise Refused(5, len(text))
+        self.unwind(0)
+
+    def take(self, token, place, wanted):
+        """One token; answers whether an operand is wanted after it. Refuses 5 to 8."""
+        starts = isinstance(token, bytes) or token in ("#0", "#1", "!", "(")
+        if starts != wanted or (token == ")" and not self.brackets):
+            raise Refused(5, place)
+        if token == "(":
+            if self.brackets == BRACKETS:
+                raise Refused(6, place)
+            self.brackets += 1
+            self.waiting.append(token)
+        elif token == "!":
+            self.waiting.append(token)
+        elif token == ")":
+            self.unwind(0)
+            self.waiting.pop()
+            self.brackets -= 1
+            self.operand_done()
+        elif token in LEVEL:
+            if self.connectives == CONNECTIVES:
+                raise Refused(8, place)
+            self.connectives += 1
+            # what is at least as tight is complete; a `>` waits for the `>` on its right
+            self.unwind(LEVEL[token] + (token == ">"))
+            self.waiting.append(token)
+        else:
+            self.items.append(token if isinstance(token, str) else self.flag(token, place))
+            self.operand_done()
+        return token in LEVEL or token in ("!", "(")
+
+    def flag(self, code, place):
+        if code not in self.flags:
+            if len(self.flags) == FLAGS:
+                raise Refused(7, place)
+            self.flags.append(code)
+            self.places.append(place)
+        return self.flags.index(code) + 1
+
+    def operand_done(self):
+        while self.waiting and self.waiting[-1] == "!":
+            self.items.append(self.waiting.pop())
+
+    def unwind(self, level):
+        """Completes what waits since the last open bracket at this level or a tighter one."""
+        while self.waiting and self.waiting[-1] != "(" and LEVEL[self.waiting[-1]] >= level:
+            self.items.append(self.waiting.pop())
 
     def value(self, columns, ones):
         """The truth of the guard: bit s of the answer, where bit s of `columns[i - 1]` is the truth of flag i."""
@@ -104,84 +167,6 @@ class Tree:
 
     def states(self):
         return 1 << len(self.flags)
-
-
-class Guard(Tree):
-    """An accepted text: its flags in order of appearance, with their places, and its items in postfix order.
-
-    Flags that were seen before, in another guard, keep their numbers.
-    """
-
-    def __init__(self, text, seen=()):
-        if len(text) > TEXT:
-            raise Refused(1, TEXT)
-        super().__init__(list(seen), [])
-        self.places = [None] * len(seen)
-        self.waiting = []  # signs and open brackets whose right side is not complete
-        self.brackets = 0
-        self.connectives = 0
-        wanted = True  # whether an operand is wanted
-        place = 0
-        while place < len(text):
-            if text[place] == 0x20:
-                place += 1
-                continue
-            token, end = token_at(text, place)
-            wanted = self.take(token, place, wanted)
-            place = end
-        if wanted or self.brackets:
-            raise self.misplaced(len(text), wanted)
-        self.unwind(0)
-
-    def misplaced(self, place, wanted):
-        """The refusal 5 where an operand is wanted, or a sign and what ends the innermost guard: its bracket, or the text."""
-        return Refused(5, place, 1 if wanted else 2 if self.brackets else 3)
-
-    def take(self, token, place, wanted):
-        """One token; answers whether an operand is wanted after it. Refuses 5 to 8."""
-        starts = isinstance(token, bytes) or token in ("#0", "#1", "!", "(")
-        if starts != wanted or (token == ")" and not self.brackets):
-            raise self.misplaced(place, wanted)
-        if token == "(":
-            if self.brackets == BRACKETS:
-                raise Refused(6, place)
-            self.brackets += 1
-            self.waiting.append(token)
-        elif token == "!":
-            self.waiting.append(token)
-        elif token == ")":
-            self.unwind(0)
-            self.waiting.pop()
-            self.brackets -= 1
-            self.operand_done()
-        elif token in LEVEL:
-            if self.connectives == CONNECTIVES:
-                raise Refused(8, place)
-            self.connectives += 1
-            # what is at least as tight is complete; a `>` waits for the `>` on its right
-            self.unwind(LEVEL[token] + (token == ">"))
-            self.waiting.append(token)
-        else:
-            self.items.append(token if isinstance(token, str) else self.flag(token, place))
-            self.operand_done()
-        return token in LEVEL or token in ("!", "(")
-
-    def flag(self, code, place):
-        if code not in self.flags:
-            if len(self.flags) == FLAGS:
-                raise Refused(7, place)
-            self.flags.append(code)
-            self.places.append(place)
-        return self.flags.index(code) + 1
-
-    def operand_done(self):
-        while self.waiting and self.waiting[-1] == "!":
-            self.items.append(self.waiting.pop())
-
-    def unwind(self, level):
-        """Completes what waits since the last open bracket at this level or a tighter one."""
-        while self.waiting and self.waiting[-1] != "(" and LEVEL[self.waiting[-1]] >= level:
-            self.items.append(self.waiting.pop())
 
 
 # The services
@@ -338,11 +323,7 @@ def check(text, depth, rng=None):
         raise Refused(1, TEXT)
     if depth > DEPTH:
         raise Refused(2)
-    return saturated(Guard(text), depth, rng)
-
-
-def saturated(guard, depth, rng=None):
-    """What check answers of a guard, by saturation."""
+    guard = Guard(text)
     rng = rng or random.Random(0)
     triplets, root = guard.triplets()
     n = len(guard.flags)
@@ -370,24 +351,17 @@ def decide(text, depth):
 
     The self-test compares the two ways on small guards.
     """
-    if len(text) > TEXT or depth > DEPTH:
+    if len(text) > TEXT or depth > DEPTH or depth < len(Guard(text).flags):
         return check(text, depth)
-    return decided(Guard(text), depth)
-
-
-def decided(guard, depth):
-    """What check answers of a guard, by the shorter of the two ways."""
-    if depth < len(guard.flags):
-        return saturated(guard, depth)
-    bits = gap_bits(guard)
-    return ("covered", None) if bits == 0 else ("gap", (bits & -bits).bit_length() - 1)
+    _, first = list_gaps(text, 0, 0)
+    return ("covered", None) if first is None else ("gap", first)
 
 
 # The importer's side and covercheck
 
 
 def packed_refusal(refused):
-    return 3 << 32 | refused.wanted << 24 | refused.number << 16 | refused.place
+    return 3 << 32 | refused.number << 16 | refused.place
 
 
 def packed_check(text, depth):
@@ -421,8 +395,7 @@ def line_answer(line):
         depth, text = line_parts(line)
         kind, state = decide(text, depth)
     except Refused as refused:
-        said = [refused.number, refused.place] + ([refused.wanted] if refused.number == 5 else [])
-        return b"refused " + b" ".join(b"%d" % number for number in said)
+        return b"refused %d %d" % (refused.number, refused.place)
     if kind != "gap":
         return kind.encode()
     flags = Guard(text).flags
@@ -456,12 +429,12 @@ class Tally:
                 print(f"{what}: {got!r}, and not {wanted!r}")
             self.failed += 1
 
-    def refuses(self, what, number, place, service, *args, wanted=0):
+    def refuses(self, what, number, place, service, *args):
         try:
             got = service(*args)
         except Refused as refused:
-            got = refused.number, refused.place, refused.wanted
-        self.same(what, got, (number, place, wanted))
+            got = refused.number, refused.place
+        self.same(what, got, (number, place))
 
 
 DILEMMA = b"(p>q)=(!q>!p)"
@@ -472,7 +445,7 @@ SAMPLE_ANSWER = b"""1 covered
 3 undecided
 4 covered
 5 gap 3E5=0 300000=1
-6 refused 5 2 1
+6 refused 5 2
 7 gap
 """
 
@@ -522,21 +495,16 @@ def notation(t):
     t.same("the first flag is the highest bit", [evaluate(b"A>B", s) for s in range(4)], [True, True, False, True])
     t.refuses("state", 9, 0, evaluate, b"A>B", 4)
     t.same("packed", [packed_check(WITH_A, d) for d in (0, 1, 25)], [2 << 32, (1 << 32) + 4, (3 << 32) + (2 << 16)])
-    t.same("packed", packed_evaluate(b"A&", 0), (3 << 32) + (1 << 24) + (5 << 16) + 2)
+    t.same("packed", packed_evaluate(b"A&", 0), (3 << 32) + (5 << 16) + 2)
 
 
 def refusals(t):
     """Every refusal, at its ceiling and one past it, and the order of refusals."""
-    for text, place, wanted in (
-        (b"", 0, 1), (b"   ", 3, 1), (b"A&  ", 4, 1), (b"!", 1, 1), (b"(", 1, 1), (b"()", 1, 1), (b"A&&" + b"B" * 13, 2, 1),
-        (b"(A", 2, 2), (b"(A B)", 3, 2), (b"((A)!B)", 4, 2), (b"(A" + b"(" * 33, 2, 2),
-        (b"A B", 2, 3), (b"A)", 1, 3), (b"(A)B", 3, 3), (b"#01", 2, 3), (b"A)$", 1, 3), (b"A(" + b"(" * 33, 1, 3),
-    ):
-        t.refuses(text, 5, place, Guard, text, wanted=wanted)
     for text, number, place in (
-        (b"#2", 3, 0), (b"#", 3, 0), (b"# 0", 3, 0), (b"A\t", 3, 1), (b"A&\x80", 3, 2), (b"\n", 3, 0),
-        (b"A" * 13, 4, 0), (b"A " + b"B" * 13, 4, 2),
-        (b"(" * 33, 6, 32), (b"a" * 4097, 1, 4096), (b"$" * 4097, 1, 4096),
+        (b"", 5, 0), (b"   ", 5, 3), (b"A B", 5, 2), (b"A)", 5, 1), (b"(A", 5, 2), (b"A&  ", 5, 4), (b"()", 5, 1),
+        (b"#2", 3, 0), (b"#", 3, 0), (b"# 0", 3, 0), (b"#01", 5, 2), (b"A\t", 3, 1), (b"A&\x80", 3, 2), (b"\n", 3, 0),
+        (b"A" * 13, 4, 0), (b"A " + b"B" * 13, 4, 2), (b"A&&" + b"B" * 13, 5, 2), (b"A)$", 5, 1),
+        (b"(" * 33, 6, 32), (b"A(" + b"(" * 33, 5, 1), (b"a" * 4097, 1, 4096), (b"$" * 4097, 1, 4096),
         (b"&".join(b"f%d" % i for i in range(25)), 7, len(b"&".join(b"f%d" % i for i in range(24))) + 1),
         (b"|".join([b"a"] * 257), 8, 2 * 255 + 1), (b"a" + b"|a" * 255 + b"|$", 8, 511),
     ):
@@ -549,7 +517,7 @@ def refusals(t):
     t.same("depth 24", check(b"a", 24), ("gap", 0))
     for line, answer in (
         (b"007 A", b"refused 12 0"), (b" 0 A", b"refused 12 0"), (b"A", b"refused 12 0"), (b"", b"refused 12 0"),
-        (b"7 ", b"refused 5 0 1"), (b"7 (A", b"refused 5 2 2"), (b"7 A B", b"refused 5 2 3"), (b"07  A", b"gap A=0"), (b"25 A", b"refused 2 0"), (b"99 $", b"refused 2 0"),
+        (b"7 ", b"refused 5 0"), (b"07  A", b"gap A=0"), (b"25 A", b"refused 2 0"), (b"99 $", b"refused 2 0"),
         (b"0 A$", b"refused 3 1"), (b"0A", b"refused 12 0"), (b"0", b"refused 12 0"), (b"\r", b"refused 12 0"),
     ):
         t.same(line, line_answer(line), answer)

@@ -34,14 +34,6 @@ static void refuse(struct reader *r, unsigned number, size_t place)
     r->ahead = END;
 }
 
-/* refusal 5 at the token ahead: 1 an operand was wanted, 2 a sign or `)`, 3 a sign or the end */
-static void misplaced(struct reader *r, unsigned wanted)
-{
-    if (!r->g->number)
-        r->g->wanted = wanted;
-    refuse(r, 5, r->at);
-}
-
 static void advance(struct reader *r)
 {
     size_t at = r->after;
@@ -133,7 +125,7 @@ static unsigned bracketed(struct reader *r)
     advance(r);
     unsigned l = same(r);
     if (r->ahead != ')')
-        misplaced(r, 2);
+        refuse(r, 5, r->at);
     else
         advance(r);
     r->brackets--;
@@ -155,7 +147,7 @@ static unsigned operand(struct reader *r)
     } else if (r->ahead == '(') {
         l = bracketed(r);
     } else {
-        misplaced(r, 1);
+        refuse(r, 5, r->at);
     }
     return l ^ sign;
 }
@@ -202,7 +194,7 @@ static unsigned same(struct reader *r)
 
 void guard_read(struct guard *g, const uint8_t *text, size_t len)
 {
-    g->number = g->place = g->wanted = g->flags = g->count = 0;
+    g->number = g->place = g->flags = g->count = 0;
     g->root = 0;
     if (len > 4096) {
         g->number = 1;
@@ -213,5 +205,5 @@ void guard_read(struct guard *g, const uint8_t *text, size_t len)
     advance(&r);
     g->root = (uint16_t)same(&r);
     if (r.ahead != END)
-        misplaced(&r, 3);
+        refuse(&r, 5, r.at);
 }

@@ -7,7 +7,7 @@
 enum { FLAGS = 24, CONNECTIVES = 255, FIRST = FLAGS + 1, VARIABLES = FIRST + CONNECTIVES };
 
 struct guard {
-    unsigned number, place, wanted; /* the refusal; number 0 where the text is a guard */
+    unsigned number, place; /* the refusal; number 0 where the text is a guard */
     unsigned flags, count;
     uint16_t start[FLAGS], length[FLAGS];
     uint16_t triplets[3 * CONNECTIVES];
@@ -18,7 +18,7 @@ void guard_read(struct guard *g, const uint8_t *text, size_t len);
 
 static inline uint64_t guard_refusal(const struct guard *g)
 {
-    return 3ull << 32 | (uint64_t)g->wanted << 24 | (uint64_t)g->number << 16 | g->place;
+    return 3ull << 32 | (uint64_t)g->number << 16 | g->place;
 }
 
 static inline uint64_t refusal(unsigned number, unsigned place)

@@ -1,7 +1,6 @@
 /* Every entry on memory with fences: the text is lent read-only between two forbidden pages, once ending at the second and once
  * starting at the first; so is each slice, with canaries on its other side. Asked are the outline's examples, each ceiling and one
- * past it, all texts of one and two bytes, and a million random and damaged texts; of packs all of one and two bytes, and two hundred
- * thousand random and damaged ones. Nothing outside may be touched, the two places
+ * past it, all texts of one and two bytes, and a million random and damaged texts. Nothing outside may be touched, the two places
  * must answer alike, a refusal must change nothing, and what is refused, and where, must be what a second reading says (naive.c).
  * Prints how many calls were made and how many were wrong, with the first of these in full. */
 #define _GNU_SOURCE
@@ -145,40 +144,6 @@ static uint64_t ask_read(size_t room) {
     return answer[0];
 }
 
-/* The numbers that were handed out last. */
-static uint64_t answers_of_pack[TRESTULAN_PACK_ANSWERS];
-
-static uint64_t ask_pack(uint64_t depth) {
-    uint64_t answer[2], handed[2][TRESTULAN_PACK_ANSWERS];
-    int last;
-    begin("check of a pack", depth);
-    for (last = 0; last < 2; last++) {
-        uint8_t *slice = lend_slice(sizeof answers_of_pack, last);
-        answer[last] = trestulan_check_pack(lend_text(last), len, depth, (uint64_t *)(void *)slice);
-        kept(slice, sizeof answers_of_pack, answer[last] == 0 ? sizeof answers_of_pack : 0, last);
-        memcpy(handed[last], slice, sizeof answers_of_pack);
-    }
-    expect(answer[0] == answer[1] && memcmp(handed[0], handed[1], sizeof handed[0]) == 0, "answers by what stands beside the pack");
-    memcpy(answers_of_pack, handed[0], sizeof answers_of_pack);
-    return answer[0];
-}
-
-/* Why, with the kept flags in *flags where it does not refuse. */
-static uint64_t ask_why(uint64_t state, uint64_t *flags) {
-    uint64_t answer[2], lent[2];
-    int last;
-    begin("why", state);
-    for (last = 0; last < 2; last++) {
-        uint8_t *slice = lend_slice(sizeof lent[0], last);
-        answer[last] = trestulan_why(lend_text(last), len, state, (uint64_t *)(void *)slice);
-        kept(slice, sizeof lent[0], trestulan_is_refused(answer[last]) ? 0 : sizeof lent[0], last);
-        memcpy(&lent[last], slice, sizeof lent[0]);
-    }
-    expect(answer[0] == answer[1] && lent[0] == lent[1], "answers by what stands beside the text");
-    *flags = lent[0];
-    return answer[0];
-}
-
 /* ---- what must be answered ---- */
 
 static uint64_t refusal(uint32_t number_, size_t place) {
@@ -191,16 +156,12 @@ static void answers(uint64_t got, uint64_t want) {
 }
 
 static void refused_everywhere(void) {
-    uint64_t want = refusal((uint32_t)g.refusal, g.place) | (uint64_t)g.wanted << 24, flags;
-    expect(trestulan_refusal_number(want) == (uint32_t)g.refusal && trestulan_refusal_place(want) == g.place &&
-               trestulan_refusal_wanted(want) == (uint32_t)g.wanted,
-        "a refusal taken apart otherwise");
+    uint64_t want = refusal((uint32_t)g.refusal, g.place);
     answers(ask_check(draw(3)), want);
     answers(ask_evaluate(draw(3)), want);
     answers(ask_list(draw(3), draw(5)), want);
     answers(ask_read(draw(7)), want);
     answers(ask_name(draw(3)), want);
-    answers(ask_why(draw(3), &flags), want);
 }
 
 static void read_and_named(void) {
@@ -229,36 +190,6 @@ static void evaluated_and_listed(void) {
     if (state >= states) answers(listed, none);
 }
 
-/* Whether every state with the gap's values at these flags is a gap. */
-static int forced(uint64_t gap, uint64_t flags) {
-    uint64_t state;
-    for (state = 0; state < (uint64_t)1 << g.flags; state++)
-        if (((state ^ gap) & flags) == 0 && naive_value(&g, state)) return 0;
-    return 1;
-}
-
-/* Why names flags for a gap alone; with few flags they are computed here once more, with many some states that agree are tried. */
-static void explained(void) {
-    uint64_t states = (uint64_t)1 << g.flags, state = draw((unsigned)states + 2), flags, want = states - 1, bit;
-    uint64_t answer = ask_why(state, &flags);
-    int i;
-    if (state >= states) {
-        answers(answer, refusal(TRESTULAN_NO_SUCH_STATE, 0));
-        return;
-    }
-    if (naive_value(&g, state)) {
-        answers(answer, refusal(TRESTULAN_NOT_A_GAP, 0));
-        return;
-    }
-    answers(answer, 0);
-    expect(flags < states, "flags that are none");
-    for (i = 0; i < 3; i++) expect(!naive_value(&g, (state & flags) | (draw((unsigned)states) & ~flags)), "flags that force no gap");
-    if (g.flags > 4) return;
-    for (bit = states >> 1; bit > 0; bit >>= 1)
-        if (forced(state, want & ~bit)) want &= ~bit;
-    answers(flags, want);
-}
-
 static void checked(void) {
     static const uint64_t depths[] = {0, 1, 2, 24, 25, UINT64_MAX};
     uint64_t depth = depths[draw(6)], answer = ask_check(depth);
@@ -275,29 +206,7 @@ static void ask_all(void) {
     }
     read_and_named();
     evaluated_and_listed();
-    explained();
     checked();
-}
-
-/* A pack's answer keeps its form: a refusal of the table at a place of the pack, or kinds, states and variants that there are. */
-static void ask_of_pack(void) {
-    static const uint64_t depths[] = {0, 0, 1, 1, 2, 24, 24, 25, UINT64_MAX};
-    const uint64_t *a = answers_of_pack;
-    uint64_t depth = depths[draw(9)], answer = ask_pack(depth), number_ = trestulan_long_refusal_number(answer);
-    if (depth > TRESTULAN_MAX_DEPTH) {
-        answers(answer, TRESTULAN_DEPTH_TOO_LARGE);
-    } else if (answer != 0) {
-        expect((number_ >= 3 && number_ <= 8) || (number_ >= 13 && number_ <= 15) || number_ == 1, "a refusal that is none");
-        expect(trestulan_long_refusal_place(answer) <= len, "a place outside the pack");
-        expect((number_ == TRESTULAN_MISPLACED) == (trestulan_long_refusal_wanted(answer) != 0), "something wanted with another refusal than 5");
-        expect(trestulan_long_refusal_wanted(answer) <= TRESTULAN_WANTED_SIGN_OR_END, "something wanted that is none");
-    } else {
-        expect(a[TRESTULAN_WHOLE_KIND] <= 2 && (a[TRESTULAN_WHOLE_KIND] == TRESTULAN_GAP || a[TRESTULAN_WHOLE_STATE] == 0), "no answer of a line");
-        expect(a[TRESTULAN_PAIR_FIRST] == 0 ? a[TRESTULAN_PAIR_SECOND] == 0 && a[TRESTULAN_PAIR_KIND] == 0 && a[TRESTULAN_PAIR_STATE] == 0
-                                            : a[TRESTULAN_PAIR_FIRST] < a[TRESTULAN_PAIR_SECOND] && a[TRESTULAN_PAIR_SECOND] <= 16 &&
-                                                  a[TRESTULAN_PAIR_KIND] != TRESTULAN_COVERED && a[TRESTULAN_PAIR_KIND] <= 2,
-            "no pair of a line");
-    }
 }
 
 /* ---- texts ---- */
@@ -324,16 +233,16 @@ static const struct {
     {"(p>q)=(!q>!p)", 0, UINT64_C(2) << 32},
     {"(p>q)=(!q>!p)", 1, 0},
     {"3E5|!300000", 0, UINT64_C(1) << 32 | 1},
-    {"A&", 0, UINT64_C(3) << 32 | 1 << 24 | 5 << 16 | 2},
+    {"A&", 0, UINT64_C(3) << 32 | 5 << 16 | 2},
     {"#0", 0, UINT64_C(1) << 32},
     {"(A&B)|(!A|!B)", 0, 0},
     {"!a&((p>q)=(!q>!p))", 0, UINT64_C(2) << 32},
     {"!a&((p>q)=(!q>!p))", 1, UINT64_C(1) << 32 | 4},
     {"(((p>p)>p)>(p>q))>(((p>q)>p)>q)", 0, 0},
-    {"", 0, UINT64_C(3) << 32 | 1 << 24 | 5 << 16},
-    {"A B", 0, UINT64_C(3) << 32 | 3 << 24 | 5 << 16 | 2},
-    {"A)", 0, UINT64_C(3) << 32 | 3 << 24 | 5 << 16 | 1},
-    {"(A", 0, UINT64_C(3) << 32 | 2 << 24 | 5 << 16 | 2},
+    {"", 0, UINT64_C(3) << 32 | 5 << 16},
+    {"A B", 0, UINT64_C(3) << 32 | 5 << 16 | 2},
+    {"A)", 0, UINT64_C(3) << 32 | 5 << 16 | 1},
+    {"(A", 0, UINT64_C(3) << 32 | 5 << 16 | 2},
     {"#2", 0, UINT64_C(3) << 32 | 3 << 16},
 };
 
@@ -354,22 +263,6 @@ static const struct {
     {"!a&((p>q)=(!q>!p))", 0, 2, UINT64_C(1) << 32 | 6, 4, 5},
 };
 
-static const struct {
-    const char *text;
-    uint64_t state, answer, flags;
-} reasons[] = {
-    {"A&B&C", 0, 0, 1},
-    {"A&B&C", 3, 0, 4},
-    {"A|B|C", 0, 0, 7},
-    {"(A&B)|C", 2, 0, 5},
-    {"#0", 0, 0, 0},
-    {"A|B", 1, UINT64_C(3) << 32 | 16 << 16, 0},
-    {"#1", 0, UINT64_C(3) << 32 | 16 << 16, 0},
-    {"#1", 1, UINT64_C(3) << 32 | 9 << 16, 0},
-    {"A|!A", UINT64_MAX, UINT64_C(3) << 32 | 9 << 16, 0},
-    {"A&", 0, UINT64_C(3) << 32 | 1 << 24 | 5 << 16 | 2, 0},
-};
-
 static void ask_examples(void) {
     size_t i;
     for (i = 0; i < sizeof outline / sizeof outline[0]; i++) {
@@ -386,13 +279,6 @@ static void ask_examples(void) {
         memcpy(got, slice_lent + ROOM - 4 * lists[i].room, written > 2 ? 8 : 4 * written);
         expect(written < 1 || got[0] == lists[i].first, "first gap");
         expect(written < 2 || got[1] == lists[i].second, "second gap");
-    }
-    for (i = 0; i < sizeof reasons / sizeof reasons[0]; i++) {
-        uint64_t flags, answer;
-        take_text(reasons[i].text);
-        answer = ask_why(reasons[i].state, &flags);
-        answers(answer, reasons[i].answer);
-        if (!trestulan_is_refused(answer)) answers(flags, reasons[i].flags);
     }
     take_text("A>B>C");
     answers(ask_read(6), (uint64_t)3 << 24 | 2 << 16 | 52);
@@ -476,26 +362,6 @@ static void ask_random_texts(void) {
     }
 }
 
-static void ask_packs(void) {
-    unsigned a, b;
-    long i;
-    len = 0;
-    answers(ask_pack(0), TRESTULAN_BROKEN_PACK);
-    for (a = 0; a < 256; a++) {
-        for (b = 0; b < 256; b++) {
-            text[0] = (uint8_t)a;
-            text[1] = (uint8_t)b;
-            len = 1 + (b > 0);
-            answers(ask_pack(0), TRESTULAN_BROKEN_PACK);
-        }
-    }
-    for (i = 0; i < 200000; i++) {
-        random_pack();
-        if (i % 3 == 0) damage();
-        ask_of_pack();
-    }
-}
-
 int main(void) {
     struct sigaction act;
     memset(&act, 0, sizeof act);
@@ -508,7 +374,6 @@ int main(void) {
     ask_ceilings();
     ask_short_texts();
     ask_random_texts();
-    ask_packs();
     printf("%lu calls, %lu wrong\n", calls, wrong);
     return wrong != 0;
 }

@@ -70,39 +70,3 @@ void random_text(unsigned flags, unsigned signs) {
     len = 0;
     random_guard(flags, signs, 20);
 }
-
-/* A field of a pack: what was made from `body` on becomes its body. */
-static void close_field(unsigned tag, size_t body) {
-    size_t bytes = len - body;
-    if (len + 3 > MOST_MADE) return;
-    memmove(text + body + 3, text + body, bytes);
-    text[body] = (uint8_t)tag;
-    text[body + 1] = (uint8_t)(bytes >> 8);
-    text[body + 2] = (uint8_t)bytes;
-    len += 3;
-}
-
-static void guard_field(unsigned tag) {
-    size_t body = len;
-    random_guard(1 + draw(5), draw(draw(30) == 0 ? 60 : 5), 6);
-    close_field(draw(60) == 0 ? draw(7) : tag, body);
-}
-
-static void plain_field(unsigned tag, unsigned most) {
-    size_t body = len;
-    unsigned bytes = draw(most);
-    while (bytes-- > 0) put("x");
-    if (draw(60) > 0) close_field(draw(60) == 0 ? draw(7) : tag, body);
-}
-
-void random_pack(void) {
-    unsigned variants = draw(12) == 0 ? 14 + draw(5) : draw(5);
-    len = 0;
-    plain_field(1, 19);
-    if (draw(2)) guard_field(2);
-    while (variants-- > 0) {
-        guard_field(3);
-        plain_field(4, 9);
-    }
-    if (draw(20) == 0 && len > 0) len -= draw((unsigned)len);
-}

@@ -21,7 +21,4 @@ void random_text(unsigned flags, unsigned signs);
 /* One to three bytes changed, taken out or put in. */
 void damage(void);
 
-/* A line pack of few variants; some of them have a field too many, too few, or of another tag or length. */
-void random_pack(void);
-
 #endif

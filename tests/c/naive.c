@@ -46,14 +46,6 @@ static int refuse(struct reader *r, int number) {
     return -1;
 }
 
-/* A token that cannot stand here: an operand was wanted, or what may follow one. */
-static int misplaced(struct reader *r, int operand_wanted) {
-    int first = r->g->refusal == 0;
-    refuse(r, 5);
-    if (first && r->g->refusal == 5) r->g->wanted = operand_wanted ? 1 : r->brackets > 0 ? 2 : 3;
-    return -1;
-}
-
 static int make(struct reader *r, char kind, int flag, int left, int right) {
     struct node n = {kind, flag, left, right};
     r->g->node[r->g->nodes] = n;
@@ -95,11 +87,11 @@ static int operand(struct reader *r) {
         cut(r);
         at = whole(r, 0);
         if (at < 0) return -1;
-        if (r->kind != ')') return misplaced(r, 0);
+        if (r->kind != ')') return refuse(r, 5);
         r->brackets--;
         cut(r);
     } else {
-        return misplaced(r, 1);
+        return refuse(r, 5);
     }
     for (i = 0; i < turns; i++) at = make(r, '!', 0, at, 0);
     return at;
@@ -126,7 +118,6 @@ void naive_read(const uint8_t *text, size_t len, struct guard *g) {
     struct reader r = {text, len, 0, 0, 0, 0, g};
     g->refusal = 0;
     g->place = 0;
-    g->wanted = 0;
     g->flags = g->signs = g->nodes = 0;
     if (len > MOST_TEXT) {
         g->refusal = 1;
@@ -135,7 +126,7 @@ void naive_read(const uint8_t *text, size_t len, struct guard *g) {
     }
     cut(&r);
     g->root = whole(&r, 0);
-    if (g->root >= 0 && r.kind != 0) misplaced(&r, 0);
+    if (g->root >= 0 && r.kind != 0) refuse(&r, 5);
 }
 
 /* ---- truth ---- */

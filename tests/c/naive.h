@@ -18,7 +18,6 @@ struct node {
 struct guard {
     int refusal; /* 0, or the refusal's number with its place */
     size_t place;
-    int wanted; /* with 5: 1 an operand, 2 a sign or `)`, 3 a sign or the end; else 0 */
     int flags, signs, root;
     size_t at[MOST_FLAGS + 1], len[MOST_FLAGS + 1]; /* where each flag's code first stands */
     int nodes;

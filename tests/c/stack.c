@@ -17,7 +17,7 @@
 
 enum { PAGE = 4096, PAINT = 0xa5, CUT = 5, RANDOM = 400 };
 
-enum service { CHECK, EVALUATE, LIST, READ, NAME, PACK, WHY };
+enum service { CHECK, EVALUATE, LIST, READ, NAME };
 
 struct call {
     const char *name;
@@ -32,8 +32,6 @@ static const struct call promised[] = {
     {"check at depth 2", CHECK, 2, TRESTULAN_STACK_CHECK_2}, {"check at depth 24", CHECK, 24, TRESTULAN_STACK_CHECK},
     {"evaluate", EVALUATE, 0, TRESTULAN_STACK_EVALUATE},     {"list", LIST, 0, TRESTULAN_STACK_LIST},
     {"read", READ, 0, TRESTULAN_STACK_READ},                 {"name", NAME, 1, TRESTULAN_STACK_NAME},
-    {"a pack at depth 0", PACK, 0, TRESTULAN_STACK_PACK_2},  {"a pack at depth 2", PACK, 2, TRESTULAN_STACK_PACK_2},
-    {"a pack at depth 24", PACK, 24, TRESTULAN_STACK_PACK},  {"why", WHY, 0, TRESTULAN_STACK_WHY},
 };
 enum { ENTRIES = sizeof promised / sizeof promised[0] };
 
@@ -44,10 +42,6 @@ static const struct call *now;
 static uint8_t *stack;
 static uint32_t states[16];
 static uint16_t room[TRESTULAN_MAX_ROOM];
-static uint8_t pack[sizeof text + 16];
-static size_t packed;
-static uint64_t answers[TRESTULAN_PACK_ANSWERS];
-static uint64_t gap; /* the text's first, for why */
 
 /* ---- texts */
 
@@ -142,20 +136,7 @@ static void run(void) {
     case LIST: trestulan_list(text, len, now->number, states, 16); break;
     case READ: trestulan_read(text, len, room, TRESTULAN_MAX_ROOM); break;
     case NAME: trestulan_name(text, len, now->number); break;
-    case PACK: trestulan_check_pack(pack, packed, now->number, answers); break;
-    case WHY: trestulan_why(text, len, gap, answers); break;
     }
-}
-
-/* The text as the one variant of a pack. */
-static void make_pack(void) {
-    uint8_t *to = pack;
-    *to++ = 1, *to++ = 0, *to++ = 1, *to++ = 'a';
-    *to++ = 3, *to++ = (uint8_t)(len >> 8), *to++ = (uint8_t)len;
-    memcpy(to, text, len);
-    to += len;
-    *to++ = 4, *to++ = 0, *to++ = 0;
-    packed = (size_t)(to - pack);
 }
 
 static size_t deepest(void) {
@@ -172,8 +153,6 @@ static size_t measured(const struct call *c) {
         if (all == MAP_FAILED || mprotect(all, PAGE, PROT_NONE) != 0) _exit(1);
     }
     now = c;
-    if (c->service == WHY) gap = trestulan_list_written(trestulan_list(text, len, 0, states, 1), 1) ? states[0] : 0;
-    make_pack();
     stack = all + PAGE + TRESTULAN_STACK - c->most;
     memset(stack, PAINT, c->most);
     if (c->most < TRESTULAN_STACK) mprotect(all, (size_t)(stack - all) & ~(size_t)(PAGE - 1), PROT_NONE);
@@ -236,7 +215,7 @@ static int on_undecided(const struct call *c) {
     act.sa_flags = SA_ONSTACK;
     sigaction(SIGALRM, &act, NULL);
     alarm(CUT);
-    undecided(24, c->service == PACK ? 254 : 255);
+    undecided(24, 255);
     printf("%s, undecided by simple rules: %zu of %zu bytes\n", c->name, measured(c), c->most);
     return 0;
 }

@@ -5,7 +5,6 @@ use mathlib.Core.Bool.{Bool, true, false}
 use mathlib.Core.List.{List}
 use lib.ListN.{length}
 use lib.Dec.{ltb}
-use Rattle.notation.specs.Refusals.{fault}
 use Rattle.notation.specs.Reading.{refusal, reading}
 use Rattle.notation.specs.declared.refusal.Refusal.{Refusal}
 use Rattle.reading.specs.declared.parse.Guard as counted
@@ -19,16 +18,16 @@ use Rattle.truth.proofs.Written.{written-value}
 use Rattle.read_truth.proofs.Begun.{read_flags, read-begins}
 
 module _ (text : List ℕ) (state : ℕ) where
-  pub evaluates-refusal : (f : Refusal) → reading text ≡ refusal f → Refused f ≡ evaluated (reading text) state
+  pub evaluates-refusal : (f : Refusal) → reading text ≡ refusal f.number f.place → Refused f ≡ evaluated (reading text) state
   unfolding evaluated
   evaluates-refusal f e = rw e refl
 
   module _ (x : counted.Guard) (codes xs : List ℕ) (f : Found text (reading text) x codes xs) where
-    pub evaluates-no-state : ltb state (2 ^ x.flags) ≡ false → (k : Refusal) → k ≡ fault 9 0 → Refused k ≡ evaluated (reading text) state
+    pub evaluates-no-state : ltb state (2 ^ x.flags) ≡ false → Refused (record { number = 9; place = 0 }) ≡ evaluated (reading text) state
     unfolding evaluated
-    evaluates-no-state h k e =
+    evaluates-no-state h =
         let late : ltb state (2 ^ length f.flags) ≡ false = rw (read_flags text x codes xs f) at h in
-        rw (f.says, late) (ap Refused e)
+        rw (f.says, late) refl
 
     pub evaluates-value : ltb state (2 ^ x.flags) ≡ true → (b : Bool) → b ≡ root_value x.flags xs x.count x.root state → Value b
         ≡ evaluated (reading text) state

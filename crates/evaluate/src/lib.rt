@@ -4,7 +4,7 @@ ghost use Rattle.notation.specs.Reading.{reading};
 ghost use Rattle.evaluate.specs.Evaluated.{evaluated};
 
 use notation::ceilings::{CODES_ROOM, TRIPLETS_ROOM};
-use notation::refusal::{Refusal, fault};
+use notation::refusal::Refusal;
 use reading::parse::{Parsed, parse};
 use truth::states::is_state;
 use truth::values::root_value;
@@ -28,7 +28,10 @@ pub fn evaluate(text: &[u8], state: u64) -> Evaluation
         Parsed::Guard(guard) => guard,
     };
     if !is_state(state, guard.flags) {
-        return Evaluation::Refused(fault(9, 0));
+        return Evaluation::Refused(Refusal {
+            number: 9,
+            place: 0,
+        });
     }
     let value = root_value(&triplets, guard.count, guard.root, guard.flags, state);
     Evaluation::Value(value)

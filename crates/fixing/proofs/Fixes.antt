@@ -1,8 +1,8 @@
--- Fixing flags, triplet by triplet: at the start, where a literal stands for the triplet, and where it becomes one.
+-- Fixing the first flag, triplet by triplet: at the start, where a literal stands for the triplet, and where it becomes one.
 use Prim.Native.Nat.{ℕ, zero, suc, ◌+◌, ◌*◌, ◌-◌, ◌/◌, ◌%◌, ◌≤◌, ◌<◌}
 use mathlib.Core.Path.{◌≡◌, refl, sym, ap, ap₂, ◌∙◌}
 use mathlib.Core.Bool.{Bool, true, not}
-use mathlib.Core.List.{List, []}
+use mathlib.Core.List.{List}
 use mathlib.Core.Logic.{◌⊎◌, inl, inr, ⊎_elim}
 use native.Mathlib.Omega.{arith}
 use native.Mathlib.Nat.{eq-or-lt_of_le}
@@ -10,14 +10,14 @@ use lib.ListN.{get_or}
 use Rattle.notation.specs.Ceilings.{flag_ceiling}
 use Rattle.notation.specs.Triplets.{triplet_variable, negation}
 use Rattle.notation.specs.clauses.Shape.{Names, Shape, kind_at, y_at, z_at}
-use Rattle.ground.proofs.Cases.{parity, split-eq}
-use Rattle.notation.proofs.Shaped.{negation-half}
 use Rattle.ground.specs.Bits.{bit}
 use Rattle.truth.specs.Connectives.{gate}
 use Rattle.truth.specs.clauses.Computed.{literal_value, computed}
+use Rattle.ground.proofs.Cases.{parity}
+use Rattle.notation.proofs.Shaped.{negation-half}
 use Rattle.truth.proofs.Literals.{literal-even, literal-odd, literal-negation, literal-agrees}
 use Rattle.truth.proofs.Computing.{named-kept, named-cases, computed_same, triplet-made, flag-kept, true-at-start, flag-at-start}
-use Rattle.fixing.specs.clauses.Fixing.{Stands, Table, Reads, Fixing, Folded, Fixed}
+use Rattle.fixing.specs.clauses.Fixing.{Stands, Fixing, Fixed}
 
 pub named_more : (n j k l : ℕ) → j ≤ k → Names n j l → Names n k l
 named_more n j k l h m =
@@ -45,55 +45,54 @@ literal-two l x e = ⊎_elim (λ (p : l % 2 ≡ 0). inl (omega arith)) (λ (p : 
 abbrev pub Alike : (ℕ → ℕ) → (ℕ → ℕ) → ℕ → Type 0
 Alike f g x = (l : ℕ) → (l / 2 ≡ x → ⊥) → g l ≡ f l
 
-module _ (less n : ℕ) (R : ℕ → ℕ → Type 0) (xs : List ℕ) (j : ℕ) (f : ℕ → ℕ) (c : ℕ) (ys : List ℕ) (fewer : less ≤ n)
-    (small : n ≤ flag_ceiling) (i : Fixing less n R xs j f c ys) where
+module _ (n : ℕ) (b : Bool) (xs : List ℕ) (j : ℕ) (f : ℕ → ℕ) (c : ℕ) (ys : List ℕ) (small : suc n ≤ flag_ceiling)
+    (i : Fixing n b xs j f c ys) where
   -- a literal t that has the value of triplet j in every state takes its place
-  module _ (g : ℕ → ℕ) (t c' : ℕ) (ys' : List ℕ) (few : c' ≤ suc j) (shape : Shape less c' ys') (more : c ≤ c')
-      (kept : (s l : ℕ) → Names less c l → literal_value (computed less s ys' c') l ≡ literal_value (computed less s ys c) l)
-      (alike : Alike f g (triplet_variable (suc j))) (even : g (2 * triplet_variable (suc j)) ≡ t)
-      (odd : g (2 * triplet_variable (suc j) + 1) ≡ negation t)
-      (named : Names less c' t)
-      (right : (s u : ℕ) → R s u → literal_value (computed less s ys' c') t ≡ computed n u xs (suc j) (triplet_variable (suc j))) where
-    old_apart : (l : ℕ) → Names n j l → l / 2 ≡ triplet_variable (suc j) → ⊥
+  module _ (g : ℕ → ℕ) (t c' : ℕ) (ys' : List ℕ) (few : c' ≤ suc j) (shape : Shape n c' ys') (more : c ≤ c')
+      (kept : (s l : ℕ) → Names n c l → literal_value (computed n s ys' c') l ≡ literal_value (computed n s ys c) l)
+      (alike : Alike f g (triplet_variable (suc j))) (even : g (2 * triplet_variable (suc j)) ≡ t) (odd : g (2 * triplet_variable (suc j) + 1) ≡ negation t)
+      (named : Names n c' t)
+      (right : (s : ℕ) → bit s n ≡ b → literal_value (computed n s ys' c') t ≡ computed (suc n) s xs (suc j) (triplet_variable (suc j))) where
+    old_apart : (l : ℕ) → Names (suc n) j l → l / 2 ≡ triplet_variable (suc j) → ⊥
     old_apart l m e =
         ⊎_elim
-        (λ (p : l / 2 ≤ n). absurd (omega arith))
+        (λ (p : l / 2 ≤ suc n). absurd (omega arith))
         (λ (p : (triplet_variable 0 < l / 2) × (l / 2 ≤ triplet_variable j)). absurd (omega arith))
         m
 
-    new-named : (l : ℕ) → l / 2 ≡ triplet_variable (suc j) → Names less c' (g l)
+    new-named : (l : ℕ) → l / 2 ≡ triplet_variable (suc j) → Names n c' (g l)
     new-named l e =
         ⊎_elim
         (λ (p : l ≡ 2 * triplet_variable (suc j)). rw (p, even) named)
         (λ (p : l ≡ 2 * triplet_variable (suc j) + 1). rw (p, odd, negation-half t) named)
         (literal-two l (triplet_variable (suc j)) e)
 
-    new-valued : (s u l : ℕ) → R s u → l / 2 ≡ triplet_variable (suc j)
-        → literal_value (computed less s ys' c') (g l) ≡ literal_value (computed n u xs (suc j)) l
-    new-valued s u l h e =
+    new-valued : (s l : ℕ) → bit s n ≡ b → l / 2 ≡ triplet_variable (suc j)
+        → literal_value (computed n s ys' c') (g l) ≡ literal_value (computed (suc n) s xs (suc j)) l
+    new-valued s l h e =
         ⊎_elim
-        (λ (p : l ≡ 2 * triplet_variable (suc j)). rw (p, even) (right s u h
-        ∙ sym (literal-even (computed n u xs (suc j)) (2 * triplet_variable (suc j)) (triplet_variable (suc j)) refl)))
+        (λ (p : l ≡ 2 * triplet_variable (suc j)). rw (p, even)
+        (right s h ∙ sym (literal-even (computed (suc n) s xs (suc j)) (2 * triplet_variable (suc j)) (triplet_variable (suc j)) refl)))
         (λ (p : l ≡ 2 * triplet_variable (suc j) + 1).
-        rw (p, odd) (literal-negation (computed less s ys' c') t ∙ ap not (right s u h)
-        ∙ sym (literal-odd (computed n u xs (suc j)) (2 * triplet_variable (suc j) + 1) (triplet_variable (suc j)) refl)))
+        rw (p, odd) (literal-negation (computed n s ys' c') t ∙ ap not (right s h) ∙ sym
+        (literal-odd (computed (suc n) s xs (suc j)) (2 * triplet_variable (suc j) + 1) (triplet_variable (suc j)) refl)))
         (literal-two l (triplet_variable (suc j)) e)
 
-    pub fixing_step : Fixing less n R xs (suc j) g c' ys'
+    pub fixing_step : Fixing n b xs (suc j) g c' ys'
     fixing_step =
         record {
           few = few;
           shape = shape;
           named = λ l m. ⊎_elim
-              (λ (p : Names n j l). rw (alike l (old_apart l p)) (named_more less c c' (f l) more (i.named l p)))
+              (λ (p : Names (suc n) j l). rw (alike l (old_apart l p)) (named_more n c c' (f l) more (i.named l p)))
               (λ (e : l / 2 ≡ triplet_variable (suc j)). new-named l e)
-              (named-cases n j l small m);
-          valued = λ s u l h m. ⊎_elim
-              (λ (p : Names n j l).
+              (named-cases (suc n) j l small m);
+          valued = λ s l h m. ⊎_elim
+              (λ (p : Names (suc n) j l).
               rw (alike l (old_apart l p))
-              (kept s (f l) (i.named l p) ∙ i.valued s u l h p ∙ sym (named-kept n u xs small (suc j) j l (omega arith) p)))
-              (λ (e : l / 2 ≡ triplet_variable (suc j)). new-valued s u l h e)
-              (named-cases n j l small m);
+              (kept s (f l) (i.named l p) ∙ i.valued s l h p ∙ sym (named-kept (suc n) s xs small (suc j) j l (omega arith) p)))
+              (λ (e : l / 2 ≡ triplet_variable (suc j)). new-valued s l h e)
+              (named-cases (suc n) j l small m);
         }
 
 -- triplets that agree in their first numbers have the same shape
@@ -117,45 +116,42 @@ shape-more n c ys s k y z =
     last : (j : ℕ) → j < suc c → j ≤ c
     last j p = omega arith
 
-module _ (less n : ℕ) (R : ℕ → ℕ → Type 0) (xs : List ℕ) (j : ℕ) (f : ℕ → ℕ) (c : ℕ) (ys : List ℕ) (fewer : less ≤ n)
-    (small : n ≤ flag_ceiling) (i : Fixing less n R xs j f c ys)
-    (ny : Names n j (y_at xs j)) (nz : Names n j (z_at xs j)) where
+module _ (n : ℕ) (b : Bool) (xs : List ℕ) (j : ℕ) (f : ℕ → ℕ) (c : ℕ) (ys : List ℕ) (small : suc n ≤ flag_ceiling) (i : Fixing n b xs j f c ys)
+    (ny : Names (suc n) j (y_at xs j)) (nz : Names (suc n) j (z_at xs j)) where
   -- what triplet j is computed to be, by what became of its operands
-  made_of : (s u : ℕ) → R s u
-      → gate (kind_at xs j) (literal_value (computed less s ys c) (f (y_at xs j))) (literal_value (computed less s ys c) (f (z_at xs j))) ≡ computed n u xs
+  made_of : (s : ℕ) → bit s n ≡ b
+      → gate (kind_at xs j) (literal_value (computed n s ys c) (f (y_at xs j))) (literal_value (computed n s ys c) (f (z_at xs j))) ≡ computed (suc n) s xs
       (suc j) (triplet_variable (suc j))
-  made_of s u h = ap₂ (gate (kind_at xs j)) (i.valued s u (y_at xs j) h ny) (i.valued s u (z_at xs j) h nz) ∙ sym (triplet-made n u xs j)
+  made_of s h = ap₂ (gate (kind_at xs j)) (i.valued s (y_at xs j) h ny) (i.valued s (z_at xs j) h nz) ∙ sym (triplet-made (suc n) s xs j)
 
   module _ (g : ℕ → ℕ) (t : ℕ) (ys' : List ℕ) (alike : Alike f g (triplet_variable (suc j)))
       (even : g (2 * triplet_variable (suc j)) ≡ t) (odd : g (2 * triplet_variable (suc j) + 1) ≡ negation t)
       (agree : (k : ℕ) → k < 3 * c → get_or ys' k 0 ≡ get_or ys k 0) where
-    computed-kept : (s l : ℕ) → literal_value (computed less s ys' c) l ≡ literal_value (computed less s ys c) l
-    computed-kept s l = literal-agrees (computed less s ys' c) (computed less s ys c) l (computed_same less s c ys ys' agree (l / 2))
+    computed-kept : (s l : ℕ) → literal_value (computed n s ys' c) l ≡ literal_value (computed n s ys c) l
+    computed-kept s l = literal-agrees (computed n s ys' c) (computed n s ys c) l (computed_same n s c ys ys' agree (l / 2))
 
     -- a literal stands for the triplet
-    pub fixing-stands : Stands (kind_at xs j) (f (y_at xs j)) (f (z_at xs j)) t → Fixing less n R xs (suc j) g c ys'
+    pub fixing-stands : Stands (kind_at xs j) (f (y_at xs j)) (f (z_at xs j)) t → Fixing n b xs (suc j) g c ys'
     fixing-stands st =
-        fixing_step less n R xs j f c ys fewer small i g t c ys' (omega (arith, i.few)) (shape_same less c ys ys' agree i.shape) (omega arith)
+        fixing_step n b xs j f c ys small i g t c ys' (omega (arith, i.few)) (shape_same n c ys ys' agree i.shape) (omega arith)
         (λ s l m. computed-kept s l) alike even odd
-        (named-of less c (f (y_at xs j)) (f (z_at xs j)) t (i.named (y_at xs j) ny) (i.named (z_at xs j) nz) st.of)
-        (λ s u h. computed-kept s t ∙ st.value (computed less s ys c) (flag-kept less s ys c 0 (omega arith) ∙ true-at-start less s ys)
-        ∙ made_of s u h)
+        (named-of n c (f (y_at xs j)) (f (z_at xs j)) t (i.named (y_at xs j) ny) (i.named (z_at xs j) nz) st.of)
+        (λ s h. computed-kept s t ∙ st.value (computed n s ys c) (flag-kept n s ys c 0 (omega arith) ∙ true-at-start n s ys) ∙ made_of s h)
 
     -- the triplet becomes one of its own
     pub fixing-new : t ≡ 2 * triplet_variable (suc c) → kind_at xs j ≤ 1
-        → kind_at ys' c ≡ kind_at xs j → y_at ys' c ≡ f (y_at xs j) → z_at ys' c ≡ f (z_at xs j) → Fixing less n R xs (suc j) g (suc c) ys'
+        → kind_at ys' c ≡ kind_at xs j → y_at ys' c ≡ f (y_at xs j) → z_at ys' c ≡ f (z_at xs j) → Fixing n b xs (suc j) g (suc c) ys'
     fixing-new e k ek ey ez =
-        fixing_step less n R xs j f c ys fewer small i g t (suc c) ys' (omega (arith, i.few))
-        (shape-more less c ys' (shape_same less c ys ys' agree i.shape) (rw ek k) (rw ey (i.named (y_at xs j) ny))
-        (rw ez (i.named (z_at xs j) nz)))
+        fixing_step n b xs j f c ys small i g t (suc c) ys' (omega (arith, i.few))
+        (shape-more n c ys' (shape_same n c ys ys' agree i.shape) (rw ek k) (rw ey (i.named (y_at xs j) ny)) (rw ez (i.named (z_at xs j) nz)))
         (omega arith)
-        (λ s l m. named-kept less s ys' (omega arith) (suc c) c l (omega arith) m ∙ computed-kept s l)
+        (λ s l m. named-kept n s ys' (omega arith) (suc c) c l (omega arith) m ∙ computed-kept s l)
         alike even odd
         (inr (omega arith, omega arith))
-        (λ s u h. rw e
-        (literal-even (computed less s ys' (suc c)) (2 * triplet_variable (suc c)) (triplet_variable (suc c)) refl
-        ∙ triplet-made less s ys' c
-        ∙ (rw (ek, ey, ez, computed-kept s (f (y_at xs j)), computed-kept s (f (z_at xs j))) (made_of s u h))))
+        (λ s h. rw e
+        (literal-even (computed n s ys' (suc c)) (2 * triplet_variable (suc c)) (triplet_variable (suc c)) refl
+        ∙ triplet-made n s ys' c
+        ∙ (rw (ek, ey, ez, computed-kept s (f (y_at xs j)), computed-kept s (f (z_at xs j))) (made_of s h))))
 
 -- the literals at the start: true and false stay, the first flag is fixed, each further one is one less
 pub record Started (n : ℕ) (b : Bool) (f : ℕ → ℕ) : Type 0 where
@@ -187,12 +183,12 @@ first-flag n s b xs h =
 start-valued : (n s : ℕ) (b : Bool) (xs ys : List ℕ) (f : ℕ → ℕ) → Started n b f → bit s n ≡ b → (l : ℕ) → l / 2 ≤ suc n
     → literal_value (computed n s ys 0) (f l) ≡ literal_value (computed (suc n) s xs 0) l
 start-valued n s b xs ys f st h zero p =
-    rw st.top (literal-even (computed n s ys 0) 0 0 refl ∙ true-at-start n s ys
-    ∙ sym (literal-even (computed (suc n) s xs 0) 0 0 refl ∙ true-at-start (suc n) s xs))
+    rw st.top (literal-even (computed n s ys 0) 0 0 refl ∙ true-at-start n s ys ∙ sym
+    (literal-even (computed (suc n) s xs 0) 0 0 refl ∙ true-at-start (suc n) s xs))
 start-valued n s b xs ys f st h (suc zero) p =
     rw st.bottom
-    (literal-odd (computed n s ys 0) 1 0 refl ∙ ap not (true-at-start n s ys)
-    ∙ sym (literal-odd (computed (suc n) s xs 0) 1 0 refl ∙ ap not (true-at-start (suc n) s xs)))
+    (literal-odd (computed n s ys 0) 1 0 refl ∙ ap not (true-at-start n s ys) ∙ sym
+    (literal-odd (computed (suc n) s xs 0) 1 0 refl ∙ ap not (true-at-start (suc n) s xs)))
 start-valued n s b xs ys f st h (suc (suc zero)) p =
     st.first (computed n s ys 0) (true-at-start n s ys) ∙ sym (literal-even (computed (suc n) s xs 0) 2 1 refl ∙ first-flag n s b xs h)
 start-valued n s b xs ys f st h (suc (suc (suc zero))) p =
@@ -204,68 +200,21 @@ start-valued n s b xs ys f st h (suc (suc (suc (suc k)))) p = further (suc (suc 
         ⊎_elim
         (λ (e : l % 2 ≡ 0).
         rw (st.others l a (omega arith))
-        (literal-even (computed n s ys 0) (l - 2) (l / 2 - 1) (omega arith) ∙ flag-shifted n s (l / 2) xs ys (omega arith)
-        ∙ sym (literal-even (computed (suc n) s xs 0) l (l / 2) (omega arith))))
+        (literal-even (computed n s ys 0) (l - 2) (l / 2 - 1) (omega arith) ∙ flag-shifted n s (l / 2) xs ys (omega arith) ∙ sym
+        (literal-even (computed (suc n) s xs 0) l (l / 2) (omega arith))))
         (λ (e : l % 2 ≡ 1).
         rw (st.others l a (omega arith))
-        (literal-odd (computed n s ys 0) (l - 2) (l / 2 - 1) (omega arith) ∙ ap not (flag-shifted n s (l / 2) xs ys (omega arith))
-        ∙ sym (literal-odd (computed (suc n) s xs 0) l (l / 2) (omega arith))))
+        (literal-odd (computed n s ys 0) (l - 2) (l / 2 - 1) (omega arith) ∙ ap not (flag-shifted n s (l / 2) xs ys (omega arith)) ∙ sym
+        (literal-odd (computed (suc n) s xs 0) l (l / 2) (omega arith))))
         (parity l)
 
--- the table at the start names what it should
-table-named : (less n : ℕ) (f : ℕ → ℕ) → Table less n f → (l : ℕ) → l / 2 ≤ n → f l / 2 ≤ less
-table-named less n f t l h =
-    ⊎_elim
-    (λ (z : l / 2 ≡ 0). ⊎_elim (λ (e : l ≡ 0). rw (e, t.top) (omega arith)) (λ (e : l ≡ 1). rw (e, t.bottom) (omega arith)) (literal-two l 0 z))
-    (λ (z : l / 2 ≡ 0 → ⊥). flag (l / 2) l refl (omega (arith, z)) h)
-    (split-eq (l / 2) 0)
-  where
-    flag : (i l : ℕ) → l / 2 ≡ i → 0 < i → i ≤ n → f l / 2 ≤ less
-    flag i l e p q =
-        ⊎_elim
-        (λ (a : l ≡ 2 * i). rw a (t.within i p q))
-        (λ (a : l ≡ 2 * i + 1). rw (a, t.odd i p q, negation-half (f (2 * i))) (t.within i p q))
-        (literal-two l i e)
-
-module _ (less n : ℕ) (f : ℕ → ℕ) (t : Table less n f) (xs ys : List ℕ) (s u : ℕ) (h : Reads less n f s u) where
-  -- what is known before the triplets goes by the state alone
-  start-any : (l : ℕ) → literal_value (computed less s ys 0) l ≡ literal_value (computed less s [] 0) l
-  start-any l = literal-agrees (computed less s ys 0) (computed less s [] 0) l
-      (computed_same less s 0 [] ys (λ k p. absurd (omega (arith, p))) (l / 2))
-
-  flag-valued : (i l : ℕ) → l / 2 ≡ i → 0 < i → i ≤ n → literal_value (computed less s ys 0) (f l) ≡ literal_value (computed n u xs 0) l
-  flag-valued i l e p q =
-      ⊎_elim
-      (λ (a : l ≡ 2 * i). rw a (start-any (f (2 * i)) ∙ h i p q ∙ sym (literal-even (computed n u xs 0) (2 * i) i refl ∙ flag-at-start n u xs i p)))
-      (λ (a : l ≡ 2 * i + 1).
-      rw (a, t.odd i p q)
-      (literal-negation (computed less s ys 0) (f (2 * i)) ∙ ap not (start-any (f (2 * i)) ∙ h i p q)
-      ∙ sym (literal-odd (computed n u xs 0) (2 * i + 1) i refl ∙ ap not (flag-at-start n u xs i p))))
-      (literal-two l i e)
-
-  table-valued : (l : ℕ) → l / 2 ≤ n → literal_value (computed less s ys 0) (f l) ≡ literal_value (computed n u xs 0) l
-  table-valued l b =
-      ⊎_elim
-      (λ (z : l / 2 ≡ 0).
-      ⊎_elim
-      (λ (e : l ≡ 0).
-      rw (e, t.top) (literal-even (computed less s ys 0) 0 0 refl ∙ true-at-start less s ys
-      ∙ sym (literal-even (computed n u xs 0) 0 0 refl ∙ true-at-start n u xs)))
-      (λ (e : l ≡ 1).
-      rw (e, t.bottom)
-      (literal-odd (computed less s ys 0) 1 0 refl ∙ ap not (true-at-start less s ys)
-      ∙ sym (literal-odd (computed n u xs 0) 1 0 refl ∙ ap not (true-at-start n u xs))))
-      (literal-two l 0 z))
-      (λ (z : l / 2 ≡ 0 → ⊥). flag-valued (l / 2) l refl (omega (arith, z)) b)
-      (split-eq (l / 2) 0)
-
-pub fixing-start : (less n : ℕ) (xs ys : List ℕ) (f : ℕ → ℕ) → Table less n f → Fixing less n (Reads less n f) xs 0 f 0 ys
-fixing-start less n xs ys f t =
+pub fixing-start : (n : ℕ) (b : Bool) (xs ys : List ℕ) (f : ℕ → ℕ) → Started n b f → Fixing n b xs 0 f 0 ys
+fixing-start n b xs ys f st =
     record {
       few = omega arith;
       shape = record { kinds = λ j p. absurd (omega arith); ys = λ j p. absurd (omega arith); zs = λ j p. absurd (omega arith) };
-      named = λ l m. inl (table-named less n f t l (none n l m));
-      valued = λ s u l h m. table-valued less n f t xs ys s u h l (none n l m);
+      named = λ l m. inl (start-named n b f st l (none (suc n) l m));
+      valued = λ s l h m. start-valued n s b xs ys f st h l (none (suc n) l m);
     }
   where
     none : (n l : ℕ) → Names n 0 l → l / 2 ≤ n
@@ -276,45 +225,7 @@ fixing-start less n xs ys f t =
         m
 
 -- the root is what became of it
-pub fixing-done : (less n : ℕ) (f₀ : ℕ → ℕ) (xs : List ℕ) (count root : ℕ) (f : ℕ → ℕ) (c : ℕ) (ys : List ℕ)
-    → Fixing less n (Reads less n f₀) xs count f c ys → Names n count root
-    → Folded less n f₀ xs count root ys c (f root)
-fixing-done less n f₀ xs count root f c ys i m = record {
-  few = i.few;
-  shape = i.shape;
-  named = i.named root m;
-  valued = λ s u h. i.valued s u
-      root h m;
-}
-
--- the first flag fixed: the table of its start
-odd-further : (n i : ℕ) → 2 ≤ i → i ≤ suc n → 2 * i + 1 - 2 ≡ negation (2 * i - 2)
-unfolding negation
-odd-further n i p q = omega arith
-
-pub table-first : (n : ℕ) (b : Bool) (f : ℕ → ℕ) → Started n b f → f 3 ≡ negation (f 2) → Table n (suc n) f
-table-first n b f st o =
-    record {
-      top = st.top;
-      bottom = st.bottom;
-      within = λ i p q. start-named n b f st (2 * i) (omega arith);
-      odd = λ i p q. ⊎_elim
-          (λ (e : i ≡ 1). rw e o)
-          (λ (e : i ≡ 1 → ⊥). rw (st.others (2 * i + 1) (omega arith) (omega arith), st.others (2 * i) (omega arith) (omega arith))
-          (odd-further n i (omega arith) q))
-          (split-eq i 1);
-    }
-
-pub reads_first : (n s : ℕ) (b : Bool) (f : ℕ → ℕ) → Started n b f → bit s n ≡ b → Reads n (suc n) f s s
-reads_first n s b f st h i p q =
-    start-valued n s b [] [] f st h (2 * i) (omega arith) ∙ literal-even (computed (suc n) s [] 0) (2 * i) i refl ∙ flag-at-start (suc n) s [] i p
-
-pub fixed-first : (n : ℕ) (b : Bool) (f : ℕ → ℕ) (xs : List ℕ) (count root : ℕ) (ys : List ℕ) (c r : ℕ) → Started n b f
-    → Folded n (suc n) f xs count root ys c r → Fixed n b xs count root ys c r
-fixed-first n b f xs count root ys c r st w = record {
-  few = w.few;
-  shape = w.shape;
-  named = w.named;
-  valued = λ s h. w.valued s s
-      (reads_first n s b f st h);
-}
+pub fixing-done : (n : ℕ) (b : Bool) (xs : List ℕ) (count root : ℕ) (f : ℕ → ℕ) (c : ℕ) (ys : List ℕ) → Fixing n b xs count f c ys → Names
+    (suc n) count root
+    → Fixed n b xs count root ys c (f root)
+fixing-done n b xs count root f c ys i m = record { few = i.few; shape = i.shape; named = i.named root m; valued = λ s h. i.valued s root h m }

@@ -1,6 +1,6 @@
 -- The literals that stand for a triplet: by the truth tables, where an operand is constant or the operands are equal or opposite.
-use Prim.Native.Nat.{ℕ, zero, suc, ◌+◌, ◌*◌, ◌-◌, ◌/◌, ◌≤◌, ◌<◌}
-use mathlib.Core.Path.{◌≡◌, refl, sym, ap, ◌∙◌}
+use Prim.Native.Nat.{ℕ, suc, ◌+◌, ◌*◌, ◌-◌, ◌/◌, ◌≤◌, ◌<◌}
+use mathlib.Core.Path.{◌≡◌, refl, ap, ◌∙◌}
 use mathlib.Core.Bool.{Bool, true, false, not}
 use mathlib.Core.List.{List}
 use mathlib.Core.Logic.{inl, inr, ⊎_elim}
@@ -17,9 +17,9 @@ use Rattle.truth.proofs.Literals.{literal-even, literal-odd, literal-negation}
 use Rattle.notation.specs.Ceilings.{flag_ceiling}
 use Rattle.notation.proofs.Shaped.{negation-half}
 use Rattle.notation.specs.clauses.Shape.{Names, kind_at, y_at, z_at}
-use Rattle.fixing.specs.clauses.Fixing.{Stands, Simplified, Put, StartedBy, TripletFixed, Table, Fixing}
+use Rattle.fixing.specs.clauses.Fixing.{Stands, Simplified, Put, StartedBy, TripletFixed, Fixing}
 use Rattle.truth.proofs.Computing.{named-below}
-use Rattle.fixing.proofs.Fixes.{Started, table-first, fixing-stands, fixing-new}
+use Rattle.fixing.proofs.Fixes.{Started, fixing-stands, fixing-new}
 
 module _ (v : ℕ → Bool) (t : v 0 ≡ true) where
   value-true : literal_value v 0 ≡ true
@@ -28,30 +28,20 @@ module _ (v : ℕ → Bool) (t : v 0 ≡ true) where
   value-false : literal_value v 1 ≡ false
   value-false = literal-odd v 1 0 refl ∙ ap not t
 
--- both kinds: after true stands the other operand, before false the negation, and equal operands make true
-gate-true : (k : ℕ) (a : Bool) → a ≡ gate k true a
-unfolding gate table
-gate-true zero a = refl
-gate-true (suc k) a = refl
-
-gate-false : (k : ℕ) (a : Bool) → not a ≡ gate k a false
-unfolding gate table
-gate-false zero true = refl
-gate-false zero false = refl
-gate-false (suc k) true = refl
-gate-false (suc k) false = refl
-
-gate-self : (k : ℕ) (a : Bool) → true ≡ gate k a a
-unfolding gate table
-gate-self zero true = refl
-gate-self zero false = refl
-gate-self (suc k) true = refl
-gate-self (suc k) false = refl
-
 implies_true : (a : Bool) → true ≡ table implies a true
 unfolding table
 implies_true true = refl
 implies_true false = refl
+
+implies-false : (a : Bool) → not a ≡ table implies a false
+unfolding table
+implies-false true = refl
+implies-false false = refl
+
+implies-self : (a : Bool) → true ≡ table implies a a
+unfolding table
+implies-self true = refl
+implies-self false = refl
 
 implies-opposite : (a : Bool) → a ≡ table implies (not a) a
 unfolding table
@@ -63,29 +53,26 @@ unfolding table
 same_true true = refl
 same_true false = refl
 
+same_false : (a : Bool) → not a ≡ table same a false
+unfolding table
+same_false true = refl
+same_false false = refl
+
+same_self : (a : Bool) → true ≡ table same a a
+unfolding table
+same_self true = refl
+same_self false = refl
+
 same-opposite : (a : Bool) → false ≡ table same (not a) a
 unfolding table
 same-opposite true = refl
 same-opposite false = refl
 
--- the tests that both kinds answer alike
-module _ (k y z : ℕ) where
-  pub y-true : y ≡ 0 → Stands k y z z
-  y-true e = record { value = λ v t. rw (e, value-true v t) (gate-true k (literal_value v z)); of = inr (inr refl) }
-
-  pub z-false : (r : ℕ) → z ≡ 1 → r ≡ negation y → Stands k y z r
-  z-false r e n =
-      record {
-        value = λ v t. rw (e, n, literal-negation v y, value-false v t) (gate-false k (literal_value v y));
-        of = inr
-            (inl (rw n (negation-half y)));
-      }
-
-  pub alike : y ≡ z → Stands k y z 0
-  alike e = record { value = λ v t. rw (e, value-true v t) (gate-self k (literal_value v z)); of = inl refl }
-
 module _ (y z : ℕ) where
   -- kind 0
+  pub implies-y-true : y ≡ 0 → Stands 0 y z z
+  unfolding gate table
+  implies-y-true e = record { value = λ v t. rw (e, value-true v t); of = inr (inr refl) }
 
   pub implies-y-false : y ≡ 1 → Stands 0 y z 0
   unfolding gate table
@@ -95,11 +82,23 @@ module _ (y z : ℕ) where
   unfolding gate
   implies-z-true e = record { value = λ v t. rw (e, value-true v t) (implies_true (literal_value v y)); of = inl refl }
 
+  pub implies-z-false : (r : ℕ) → z ≡ 1 → r ≡ negation y → Stands 0 y z r
+  unfolding gate
+  implies-z-false r e n =
+      record { value = λ v t. rw (e, n, literal-negation v y, value-false v t) (implies-false (literal_value v y)); of = inr (inl (rw n (negation-half y))) }
+
+  pub implies-equal : y ≡ z → Stands 0 y z 0
+  unfolding gate
+  implies-equal e = record { value = λ v t. rw (e, value-true v t) (implies-self (literal_value v z)); of = inl refl }
+
   pub implies-opposed : y ≡ negation z → Stands 0 y z z
   unfolding gate
   implies-opposed e = record { value = λ v t. rw (e, literal-negation v z) (implies-opposite (literal_value v z)); of = inr (inr refl) }
 
   -- kind 1
+  pub same-y-true : y ≡ 0 → Stands 1 y z z
+  unfolding gate table
+  same-y-true e = record { value = λ v t. rw (e, value-true v t); of = inr (inr refl) }
 
   pub same-y-false : (r : ℕ) → y ≡ 1 → r ≡ negation z → Stands 1 y z r
   unfolding gate table
@@ -108,6 +107,15 @@ module _ (y z : ℕ) where
   pub same-z-true : z ≡ 0 → Stands 1 y z y
   unfolding gate
   same-z-true e = record { value = λ v t. rw (e, value-true v t) (same_true (literal_value v y)); of = inr (inl refl) }
+
+  pub same-z-false : (r : ℕ) → z ≡ 1 → r ≡ negation y → Stands 1 y z r
+  unfolding gate
+  same-z-false r e n =
+      record { value = λ v t. rw (e, n, literal-negation v y, value-false v t) (same_false (literal_value v y)); of = inr (inl (rw n (negation-half y))) }
+
+  pub same-equal : y ≡ z → Stands 1 y z 0
+  unfolding gate
+  same-equal e = record { value = λ v t. rw (e, value-true v t) (same_self (literal_value v z)); of = inl refl }
 
   pub same-opposed : y ≡ negation z → Stands 1 y z 1
   unfolding gate
@@ -167,7 +175,7 @@ filled_more b to after l v f h w e =
     last : (k : ℕ) → k < l + 1 → k ≤ l
     last k q = omega arith
 
-pub constant-value : (v : ℕ → Bool) → v 0 ≡ true → (b : Bool) → literal_value v (choose b 0 1) ≡ b
+constant-value : (v : ℕ → Bool) → v 0 ≡ true → (b : Bool) → literal_value v (choose b 0 1) ≡ b
 constant-value v t true = value-true v t
 constant-value v t false = value-false v t
 
@@ -175,7 +183,7 @@ constant-other : (v : ℕ → Bool) → v 0 ≡ true → (b : Bool) → literal_
 constant-other v t true = value-false v t
 constant-other v t false = value-true v t
 
-pub constant_of : (b : Bool) → (◌/◌ (choose b 0 1) 2 ≡ 0) × (◌/◌ (choose b 1 0) 2 ≡ 0)
+constant_of : (b : Bool) → (◌/◌ (choose b 0 1) 2 ≡ 0) × (◌/◌ (choose b 1 0) 2 ≡ 0)
 constant_of true = (refl, refl)
 constant_of false = (refl, refl)
 
@@ -190,15 +198,6 @@ started n b to after s =
       constant = (rw s.first (constant_of b).0, rw s.not_first (constant_of b).1);
       others = λ l p q. s.others l p (omega arith);
     }
-
-turned : (b : Bool) → choose b 1 0 ≡ negation (choose b 0 1)
-unfolding negation
-turned true = refl
-turned false = refl
-
-pub table-started : (n : ℕ) (b : Bool) (to after : List ℕ) → StartedBy b to after (2 * n + 4) → Table n (suc n) (λ l. get_or after l 0)
-table-started n b to after s =
-    table-first n b (λ l. get_or after l 0) (started n b to after s) (s.not_first ∙ turned b ∙ ap negation (sym s.first))
 
 pub started-by : (b : Bool) (to to' after : List ℕ) (l m : ℕ) → StartedBy b to' after l → m ≤ l → length to' ≡ length to → StartedBy b
     to after m
@@ -282,28 +281,26 @@ module _ (xs : List ℕ) (j : ℕ) (to : List ℕ) (c : ℕ) (ys to' : List ℕ)
       }
 
 -- one triplet fixed, one more is
-pub fixing-again : (less n : ℕ) (R : ℕ → ℕ → Type 0) (xs : List ℕ) (j : ℕ) (to : List ℕ) (c : ℕ) (ys to' : List ℕ) (c' : ℕ)
-    (ys' : List ℕ)
-    → less ≤ n → n ≤ flag_ceiling
-    → Fixing less n R xs j (λ l. get_or to l 0) c ys → Names n j (y_at xs j) → Names n j (z_at xs j) → kind_at xs j ≤ 1
-    → TripletFixed xs j to c ys to' c' ys' → Fixing less n R xs (suc j) (λ l. get_or to' l 0) c' ys'
-fixing-again less n R xs j to c ys to' c' ys' fewer small i ny nz k r =
+pub fixing-again : (n : ℕ) (b : Bool) (xs : List ℕ) (j : ℕ) (to : List ℕ) (c : ℕ) (ys to' : List ℕ) (c' : ℕ) (ys' : List ℕ) → suc n
+    ≤ flag_ceiling
+    → Fixing n b xs j (λ l. get_or to l 0) c ys → Names (suc n) j (y_at xs j) → Names (suc n) j (z_at xs j) → kind_at xs j ≤ 1
+    → TripletFixed xs j to c ys to' c' ys' → Fixing n b xs (suc j) (λ l. get_or to' l 0) c' ys'
+fixing-again n b xs j to c ys to' c' ys' small i ny nz k r =
     ⊎_elim
     (λ (p : (c' ≡ c) × Stands (kind_at xs j) (get_or to (y_at xs j) 0) (get_or to (z_at xs j) 0) r.t).
     rw p.0
-    (fixing-stands less n R xs j (λ l. get_or to l 0) c ys fewer small i ny nz (λ l. get_or to' l 0) r.t ys' r.put.others r.put.even
-    r.put.odd r.agree p.1))
+    (fixing-stands n b xs j (λ l. get_or to l 0) c ys small i ny nz (λ l. get_or to' l 0) r.t ys' r.put.others r.put.even r.put.odd
+    r.agree p.1))
     (λ (p : (c' ≡ suc c) × (r.t ≡ 2 * triplet_variable (suc c)) × (kind_at ys' c ≡ kind_at xs j) × (y_at ys' c ≡ get_or to (y_at xs j) 0)
     × (z_at ys' c ≡ get_or to (z_at xs j) 0)).
     rw p.0
-    (fixing-new less n R xs j (λ l. get_or to l 0) c ys fewer small i ny nz (λ l. get_or to' l 0) r.t ys' r.put.others r.put.even
-    r.put.odd r.agree p.1 k p.2 p.3 p.4))
+    (fixing-new n b xs j (λ l. get_or to l 0) c ys small i ny nz (λ l. get_or to' l 0) r.t ys' r.put.others r.put.even r.put.odd r.agree
+    p.1 k p.2 p.3 p.4))
     r.became
 
 -- what became of an operand lies below the triplet, and so does the operand
-pub operand_below : (less n : ℕ) (R : ℕ → ℕ → Type 0) (xs : List ℕ) (j : ℕ) (to : List ℕ) (c : ℕ) (ys : List ℕ) (l : ℕ) → less ≤ n
-    → n ≤ flag_ceiling
-    → Fixing less n R xs j (λ l. get_or to l 0) c ys → Names n j l → 2 * triplet_variable (suc j) ≤ length to
+pub operand_below : (n : ℕ) (b : Bool) (xs : List ℕ) (j : ℕ) (to : List ℕ) (c : ℕ) (ys : List ℕ) (l : ℕ) → suc n ≤ flag_ceiling
+    → Fixing n b xs j (λ l. get_or to l 0) c ys → Names (suc n) j l → 2 * triplet_variable (suc j) ≤ length to
     → (l < length to) × (get_or to l 0 / 2 < triplet_variable (suc j))
-operand_below less n R xs j to c ys l fewer small i m h =
-    (omega (arith, named-below n j l small m), omega (arith, named-below less c (get_or to l 0) (omega arith) (i.named l m), i.few))
+operand_below n b xs j to c ys l small i m h =
+    (omega (arith, named-below (suc n) j l small m), omega (arith, named-below n c (get_or to l 0) (omega arith) (i.named l m), i.few))

@@ -1,12 +1,10 @@
-// Fixes flags of a guard's triplets, the first or some: what becomes constant, or another's equal, goes.
-pub mod some;
-
+// Fixes the first flag of a guard's triplets: what becomes constant, or another's equal, goes.
 ghost use Rattle.std.specs.Prelude.{◌≡◌, suc, ◌+◌, ◌*◌, ◌^◌, ◌≤◌, ◌<◌, length};
 ghost use Rattle.ground.specs.Choice.{choose};
 ghost use Rattle.notation.specs.Ceilings.{flag_ceiling, connective_ceiling};
 ghost use Rattle.notation.specs.Triplets.{triplet_variable, negation};
 ghost use Rattle.notation.specs.clauses.Shape.{Names, Shape};
-ghost use Rattle.fixing.specs.clauses.Fixing.{reading, Simplified, Put, StartedBy, Operands, TripletFixed, Table, Folded, Fixed};
+ghost use Rattle.fixing.specs.clauses.Fixing.{Simplified, Put, StartedBy, Operands, TripletFixed, Fixed};
 
 use notation::ceilings::FLAGS;
 
@@ -17,7 +15,7 @@ pub struct Left {
     pub root: u16,
 }
 
-pub fn negated(l: u16) -> u16
+fn negated(l: u16) -> u16
     requires { l + 1 < 2 ^ 16 }
     ensures { result ≡ negation l }
 {
@@ -98,7 +96,7 @@ fn put(to: &mut [u16], j: usize, t: u16)
 }
 
 // The literal of a truth value.
-pub fn constant(b: bool) -> u16
+fn constant(b: bool) -> u16
     ensures { (result ≡ choose b 0 1) × (result ≤ 1) }
 {
     if b {
@@ -146,33 +144,6 @@ fn fix_triplet(xs: &[u16], j: usize, to: &mut [u16], ys: &mut [u16], c: usize) -
     c
 }
 
-// Folds the triplets over n flags, given what became of the flags: writes those that are left, over `less` flags.
-pub fn fold(
-    xs: &[u16],
-    count: usize,
-    root: u16,
-    less: usize,
-    n: usize,
-    to: &mut [u16],
-    ys: &mut [u16],
-) -> Left
-    requires less_le_n { (less ≤ n) × (n ≤ flag_ceiling) × (count ≤ connective_ceiling) × (3 * count ≤ length xs.now)
-        × (2 * triplet_variable (suc connective_ceiling) ≤ length to.old) × (3 * connective_ceiling ≤ length ys.old) }
-    requires shape { Shape n count xs.now × Names n count root × Table less n (reading to.old) }
-    ensures { Folded less n (reading to.old) xs.now count root ys.new result.count result.root }
-{
-    let mut c = 0;
-    let mut j = 0;
-    while j < count {
-        c = fix_triplet(xs, j, to, ys, c);
-        j += 1;
-    }
-    Left {
-        count: c,
-        root: to[root as usize],
-    }
-}
-
 // Fixes the first of n + 1 flags as b: writes the triplets that are left, over n flags.
 pub fn fix_first(
     xs: &[u16],
@@ -189,5 +160,14 @@ pub fn fix_first(
     ensures { Fixed n b xs.now count root ys.new result.count result.root }
 {
     start(to, n, b);
-    fold(xs, count, root, n, n + 1, to, ys)
+    let mut c = 0;
+    let mut j = 0;
+    while j < count {
+        c = fix_triplet(xs, j, to, ys, c);
+        j += 1;
+    }
+    Left {
+        count: c,
+        root: to[root as usize],
+    }
 }

@@ -1,10 +1,9 @@
 -- What check answers of a text: the two ceilings first, then what parse left in the tables.
 use Prim.Native.Nat.{ℕ, ◌*◌, ◌≤◌, ◌<◌}
-use mathlib.Core.Path.{◌≡◌, refl, sym, subst, ◌∙◌, ap}
+use mathlib.Core.Path.{◌≡◌, refl, sym, subst, ◌∙◌}
 use mathlib.Core.List.{List}
 use lib.ListN.{length}
 use borrow.Author.Tests.{le-leb, lt-leb}
-use Rattle.notation.specs.Refusals.{fault}
 use Rattle.notation.specs.Ceilings.{text_ceiling, connective_ceiling}
 use Rattle.notation.specs.Walk.{Flag}
 use Rattle.notation.specs.Guard.{Guard}
@@ -24,11 +23,11 @@ use Rattle.guard_check.proofs.Tables.{guard-says}
 says : (text : List ℕ) (depth : ℕ) (R : Reading) (r : Verdict) → asked text depth ≡ R → ReadingSays R depth r → CheckSays text depth r
 says text depth R r e h = subst (λ (x : Reading). ReadingSays x depth r) (sym e) h
 
-pub asks-long : (text : List ℕ) (depth : ℕ) → text_ceiling < length text → asked text depth ≡ refusal (fault 1 text_ceiling)
+pub asks-long : (text : List ℕ) (depth : ℕ) → text_ceiling < length text → asked text depth ≡ refusal 1 text_ceiling
 unfolding asked
 asks-long text depth h = rw (lt-leb (length text) text_ceiling h)
 
-pub asks-deep : (text : List ℕ) (depth : ℕ) → length text ≤ text_ceiling → depth_ceiling < depth → asked text depth ≡ refusal (fault 2 0)
+pub asks-deep : (text : List ℕ) (depth : ℕ) → length text ≤ text_ceiling → depth_ceiling < depth → asked text depth ≡ refusal 2 0
 unfolding asked
 asks-deep text depth h d = rw (le-leb (length text) text_ceiling h, lt-leb depth depth_ceiling d)
 
@@ -37,14 +36,13 @@ unfolding asked
 asks-text text depth h d = rw (le-leb (length text) text_ceiling h, le-leb depth depth_ceiling d)
 
 -- a text over its ceiling
-pub too_long : (text : List ℕ) (depth : ℕ) → text_ceiling < length text → (f : Refusal) → f ≡ fault 1 text_ceiling →
-    CheckSays text depth (Refused f)
-too_long text depth h f e = says text depth (refusal (fault 1 text_ceiling)) _ (asks-long text depth h) (ap Refused e)
+pub too_long : (text : List ℕ) (depth : ℕ) → text_ceiling < length text → CheckSays text depth (Refused (record { number = 1; place = text_ceiling }))
+too_long text depth h = says text depth (refusal 1 text_ceiling) _ (asks-long text depth h) refl
 
 -- a depth over its ceiling
-pub too-deep : (text : List ℕ) (depth : ℕ) → length text ≤ text_ceiling → depth_ceiling < depth → (f : Refusal) → f ≡ fault 2 0 →
-    CheckSays text depth (Refused f)
-too-deep text depth h d f e = says text depth (refusal (fault 2 0)) _ (asks-deep text depth h d) (ap Refused e)
+pub too-deep : (text : List ℕ) (depth : ℕ) → length text ≤ text_ceiling → depth_ceiling < depth → CheckSays text depth
+    (Refused (record { number = 2; place = 0 }))
+too-deep text depth h d = says text depth (refusal 2 0) _ (asks-deep text depth h d) refl
 
 -- a guard in the tables is one that can be decided
 abbrev pub from-tables : (text codes out : List ℕ) (x : counted.Guard) → Found text (reading text) x codes out → length out ≡ 3 * connective_ceiling
@@ -54,8 +52,8 @@ from-tables text codes out x f l =
 
 module _ (text : List ℕ) (depth : ℕ) (h : length text ≤ text_ceiling) (d : depth ≤ depth_ceiling) where
   -- a refusal of the text is passed on
-  pub refused-too : (f : Refusal) → reading text ≡ refusal f → CheckSays text depth (Refused f)
-  refused-too f e = says text depth (refusal f) (Refused f) (asks-text text depth h d ∙ e) refl
+  pub refused-too : (f : Refusal) → reading text ≡ refusal f.number f.place → CheckSays text depth (Refused f)
+  refused-too f e = says text depth (refusal f.number f.place) (Refused f) (asks-text text depth h d ∙ e) refl
 
   -- what is said of its guard is said of the text
   pub guard-too : (g : Guard) (u : List Flag) → reading text ≡ guard g u → (r : Verdict) → Checked (length u) g depth r → CheckSays text depth r

@@ -13,8 +13,7 @@ use Rattle.notation.specs.Triplets.{triplets}
 use Rattle.ground.proofs.Cases.{either, split-eq}
 use Rattle.truth.specs.Value.{value}
 use Rattle.truth.specs.clauses.Computed.{root_value, Triplets}
-use Rattle.truth.specs.clauses.Written.{Begins}
-use Rattle.notation.specs.clauses.Shape.{Proper}
+use Rattle.truth.specs.clauses.Written.{Proper, Begins}
 use Rattle.truth.proofs.Written.{written-triplets, written-value}
 use Rattle.notation.proofs.Shaped.{count-triplets}
 use Rattle.steps.specs.clauses.Resting.{triplets_at}

@@ -11,7 +11,7 @@ use Rattle.saturation.proofs.Verdicts.{answer-unique}
 use Rattle.guard_check.specs.Check.{asked, ReadingSays, CheckSays}
 
 reading-unique : (x : Reading) (k : ℕ) (r s : Verdict) → ReadingSays x k r → ReadingSays x k s → r ≡ s
-reading-unique (refusal f) k r s a b = a ∙ sym b
+reading-unique (refusal number p) k r s a b = a ∙ sym b
 reading-unique (guard g u) k r s a b = answer-unique (Flags (length u)) (triplets 0 g) (literal 0 g) k (length u) r s a b
 
 -- no second verdict satisfies check's statement

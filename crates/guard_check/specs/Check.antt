@@ -1,6 +1,5 @@
 -- What check answers for a text at a depth.
 use Rattle.std.specs.Prelude.{ℕ, ◌≡◌, List, length, leb}
-use Rattle.notation.specs.Refusals.{fault}
 use Rattle.notation.specs.Ceilings.{text_ceiling}
 use Rattle.ground.specs.Choice.{choose}
 use Rattle.notation.specs.Reading.{Reading, refusal, guard, reading}
@@ -16,12 +15,12 @@ depth_ceiling = 24
 unfoldable pub asked : List ℕ → ℕ → Reading
 asked text depth =
     choose (leb (length text) text_ceiling)
-    (choose (leb depth depth_ceiling) (reading text) (refusal (fault 2 0)))
-    (refusal (fault 1 text_ceiling))
+    (choose (leb depth depth_ceiling) (reading text) (refusal 2 0))
+    (refusal 1 text_ceiling)
 
 -- a refusal is passed on, and a guard is checked
 abbrev pub ReadingSays : Reading → ℕ → Verdict → Type 0
-ReadingSays (refusal f) depth r = r ≡ Refused f
+ReadingSays (refusal k p) depth r = r ≡ Refused (record { number = k; place = p })
 ReadingSays (guard g u) depth r = Checked (length u) g depth r
 
 -- what check answers

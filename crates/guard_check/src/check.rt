@@ -3,7 +3,7 @@ ghost use Rattle.guard_check.specs.Check.{CheckSays};
 
 use crate::answer::answer;
 use notation::ceilings::{CODES_ROOM, TEXT, TRIPLETS_ROOM};
-use notation::refusal::fault;
+use notation::refusal::Refusal;
 use reading::parse::{Parsed, parse};
 use saturation::verdict::Verdict;
 
@@ -15,10 +15,16 @@ pub fn check(text: &[u8], depth: u64) -> Verdict
     ensures { CheckSays text.now depth result }
 {
     if TEXT < text.len() {
-        return Verdict::Refused(fault(1, TEXT));
+        return Verdict::Refused(Refusal {
+            number: 1,
+            place: TEXT,
+        });
     }
     if DEPTH < depth {
-        return Verdict::Refused(fault(2, 0));
+        return Verdict::Refused(Refusal {
+            number: 2,
+            place: 0,
+        });
     }
     let mut codes = [0usize; CODES_ROOM];
     let mut triplets = [0u16; TRIPLETS_ROOM];

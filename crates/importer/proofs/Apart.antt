@@ -7,26 +7,23 @@ use Rattle.notation.specs.declared.refusal.Refusal.{Refusal}
 use Rattle.saturation.specs.declared.verdict.Verdict.{Verdict}
 use Rattle.saturation.specs.declared.verdict.Verdict.TheVariants.{Covered, Gap, Undecided, Refused}
 use Rattle.importer.specs.Packed.{packed, packed_refusal, packed_verdict}
-use Rattle.reading.specs.clauses.Parsing.{last_wanted}
-use Rattle.importer.specs.clauses.Fits.{last_answered, RefusalFits, VerdictFits}
+use Rattle.reading.specs.clauses.Parsing.{last_refusal}
+use Rattle.importer.specs.clauses.Fits.{RefusalFits, VerdictFits}
 
 -- the kind and the payload of a number
 pub packed-apart : (kind payload : ℕ) → payload < 2 ^ 32 → (packed kind payload / 2 ^ 32 ≡ kind) × (packed kind payload % 2 ^ 32 ≡ payload)
 packed-apart kind payload h = (omega arith, omega arith)
 
--- what was wanted, the number and the place of a refusal, each by a shift and a mask: the number is read back as where nothing is wanted
+-- the number and the place of a refusal
 pub refusal-apart : (f : Refusal) → RefusalFits f
-    → (packed_refusal f / 2 ^ 32 ≡ 3) × (packed_refusal f / 2 ^ 24 % 2 ^ 8 ≡ f.wanted) × (packed_refusal f / 2 ^ 16 % 2 ^ 8 ≡ f.number) ×
-    (packed_refusal f % 2 ^ 16 ≡ f.place)
+    → (packed_refusal f / 2 ^ 32 ≡ 3) × (packed_refusal f % 2 ^ 32 / 2 ^ 16 ≡ f.number) × (packed_refusal f % 2 ^ 16 ≡ f.place)
 refusal-apart f h =
-    let n : f.number ≤ last_answered = h.number in
+    let n : f.number ≤ last_refusal = h.number in
     let p : f.place ≤ text_ceiling = h.place in
-    let w : f.wanted ≤ last_wanted = h.wanted in
-    (omega arith, omega arith, omega arith, omega arith)
+    (omega arith, omega arith, omega arith)
 
-refusal-same : (n p w m q x : ℕ) → n ≡ m → p ≡ q → w ≡ x
-    → Refused (record { number = n; place = p; wanted = w }) ≡ Refused (record { number = m; place = q; wanted = x })
-refusal-same n p w m q x a b c = rw (a, b, c)
+refusal-same : (n p m q : ℕ) → n ≡ m → p ≡ q → Refused (record { number = n; place = p }) ≡ Refused (record { number = m; place = q })
+refusal-same n p m q a b = rw (a, b)
 
 -- two verdicts with one number are the same
 pub verdict-apart : (v w : Verdict) → VerdictFits v → VerdictFits w → packed_verdict v ≡ packed_verdict w → v ≡ w
@@ -46,10 +43,8 @@ verdict-apart (Refused f) Covered a b e = absurd (omega arith)
 verdict-apart (Refused f) (Gap t) a b e = absurd (omega arith)
 verdict-apart (Refused f) Undecided a b e = absurd (omega arith)
 verdict-apart (Refused f) (Refused g) a b e =
-    let n : f.number ≤ last_answered = a.number in
+    let n : f.number ≤ last_refusal = a.number in
     let p : f.place ≤ text_ceiling = a.place in
-    let x : f.wanted ≤ last_wanted = a.wanted in
-    let m : g.number ≤ last_answered = b.number in
+    let m : g.number ≤ last_refusal = b.number in
     let q : g.place ≤ text_ceiling = b.place in
-    let y : g.wanted ≤ last_wanted = b.wanted in
-    refusal-same f.number f.place f.wanted g.number g.place g.wanted (omega arith) (omega arith) (omega arith)
+    refusal-same f.number f.place g.number g.place (omega arith) (omega arith)

@@ -9,8 +9,6 @@ use lib.ListN.{length, get_or}
 use lib.Dec.{leb, ltb}
 use lib.Pow.{pow_mono}
 use borrow.Author.Tests.{leb-true, ltb-true}
-use Rattle.notation.specs.Refusals.{fault}
-use Rattle.notation.specs.declared.refusal.Refusal.{Refusal}
 use Rattle.notation.specs.Ceilings.{text_ceiling, flag_ceiling, connective_ceiling}
 use Rattle.notation.specs.Tokens.{tokens}
 use Rattle.ground.specs.Choice.{choose}
@@ -19,11 +17,10 @@ use Rattle.notation.specs.Guard.{Guard, connectives}
 use Rattle.notation.specs.Triplets.{literal, literal_ceiling, triplets}
 use Rattle.notation.specs.Grammar.{tree}
 use Rattle.notation.specs.Reading.{Reading, refusal, guard, judged, reading}
-use Rattle.reading.specs.Service.{guard_with, read_answer, name_in, name_answer}
+use Rattle.reading.specs.Service.{guard_with, refused_with, read_answer, unnamed, name_in, name_answer}
+use Rattle.reading.specs.clauses.Parsing.{last_refusal}
 use Rattle.reading.specs.declared.parse.Parsed.{Parsed}
-use Rattle.reading.specs.declared.parse.Parsed.TheVariants as parsed
 use Rattle.reading.specs.declared.name.Named.{Named}
-use Rattle.reading.specs.declared.name.Named.TheVariants as named
 use Rattle.ground.proofs.Cases.{either}
 use Rattle.notation.proofs.Accepted.{reading-accepted, reading-shape}
 use Rattle.truth.specs.Value.{value}
@@ -43,36 +40,27 @@ use Rattle.gaps.proofs.Ascending.{false-not, false-one}
 use Rattle.guard_check.specs.Check.{depth_ceiling, asked, ReadingSays, CheckSays}
 use Rattle.saturation.specs.declared.verdict.Verdict.{Verdict}
 use Rattle.saturation.specs.declared.verdict.Verdict.TheVariants.{Covered, Gap, Undecided, Refused}
-use Rattle.why.specs.Numbered.{state_with}
-use Rattle.why.specs.Explained.{KeptOf, Explains}
-use Rattle.why.specs.declared.Explanation.{Explanation}
-use Rattle.why.specs.declared.Explanation.TheVariants as explanation
-use Rattle.importer.specs.clauses.Fits.{last_answered, RefusalFits, VerdictFits, EvaluationFits, FoundFits, ListingFits, ParsedFits}
-use Rattle.importer.specs.clauses.Fits.{NamedFits, ExplanationFits}
+use Rattle.importer.specs.clauses.Fits.{RefusalFits, VerdictFits, EvaluationFits, FoundFits, ListingFits, ParsedFits, NamedFits}
 use Rattle.reading.proofs.Places.{choose-has, FlagsFit, OutcomeFits, text-fits}
 
 -- ---- what a text says
--- a refusal with a number of the table and a place within the longest text, where nothing was wanted
-fault-fits : (k p : ℕ) → k ≤ last_answered → p ≤ text_ceiling → RefusalFits (fault k p)
-fault-fits k p h q = record { number = h; place = q; wanted = omega arith }
-
 -- the places of a reading are within the longest text
 abbrev PlacesFit : Reading → Type 0
-PlacesFit (refusal f) = RefusalFits f
+PlacesFit (refusal k p) = (k ≤ last_refusal) × (p ≤ text_ceiling)
 PlacesFit (guard g u) = FlagsFit u
 
 judged-fits : (o : Outcome) (g : Guard) → OutcomeFits o → PlacesFit (judged o g)
 unfolding judged
-judged-fits (refused f) g h = record { number = omega (arith, h.0); place = h.1; wanted = h.2 }
-judged-fits (accepted u m) g h = h
+judged-fits (refused k p) g f = f
+judged-fits (accepted u m) g f = f
 
 places-fit : (text : List ℕ) → PlacesFit (reading text)
 unfolding reading
 places-fit text =
     choose-has (λ (x : Reading). PlacesFit x) (leb (length text) text_ceiling) (judged (walk operand 0 [] 0 (tokens text)) (tree (tokens text)))
-    (refusal (fault 1 text_ceiling))
+    (refusal 1 text_ceiling)
     (λ h. judged-fits (walk operand 0 [] 0 (tokens text)) (tree (tokens text)) (text-fits text (leb-true (length text) text_ceiling h)))
-    (λ h. fault-fits 1 text_ceiling (omega arith) (omega arith))
+    (λ h. (omega arith, omega arith))
 
 -- a guard of so many flags and connectives as there may be, with their places
 record Small (g : Guard) (u : List Flag) : Type 0 where
@@ -82,34 +70,32 @@ record Small (g : Guard) (u : List Flag) : Type 0 where
   places : FlagsFit u
 
 abbrev ReadingFits : Reading → Type 0
-ReadingFits (refusal f) = RefusalFits f
+ReadingFits (refusal k p) = (k ≤ last_refusal) × (p ≤ text_ceiling)
 ReadingFits (guard g u) = Small g u
 
 small-reading : (text : List ℕ) (x : Reading) → reading text ≡ x → PlacesFit x → ReadingFits x
-small-reading text (refusal f) e h = h
+small-reading text (refusal k p) e f = f
 small-reading text (guard g u) e f =
-    record {
-      flags = (reading-accepted text g u e).proper.few;
-      count = (reading-accepted text g u e).short;
-      root = (reading-shape text g u e).small;
-      places = f;
-    }
+    record { flags = (reading-accepted text g u e).few; count = (reading-accepted text g u e).short; root = (reading-shape text g u e).small; places = f }
 
 reading-fits : (text : List ℕ) → ReadingFits (reading text)
 reading-fits text = small-reading text (reading text) refl (places-fit text)
+
+refusal-fits : (k p : ℕ) → (k ≤ last_refusal) × (p ≤ text_ceiling) → RefusalFits (record { number = k; place = p })
+refusal-fits k p f = record { number = f.0; place = f.1 }
 
 -- ---- check
 asked-fits : (text : List ℕ) (depth : ℕ) → ReadingFits (asked text depth)
 unfolding asked
 asked-fits text depth =
-    choose-has (λ (x : Reading). ReadingFits x) (leb (length text) text_ceiling) (choose (leb depth depth_ceiling) (reading text) (refusal (fault 2 0)))
-    (refusal (fault 1 text_ceiling))
-    (λ h. choose-has (λ (x : Reading). ReadingFits x) (leb depth depth_ceiling) (reading text) (refusal (fault 2 0)) (λ e. reading-fits text)
-    (λ e. fault-fits 2 0 (omega arith) (omega arith)))
-    (λ h. fault-fits 1 text_ceiling (omega arith) (omega arith))
+    choose-has (λ (x : Reading). ReadingFits x) (leb (length text) text_ceiling) (choose (leb depth depth_ceiling) (reading text) (refusal 2 0))
+    (refusal 1 text_ceiling)
+    (λ h. choose-has (λ (x : Reading). ReadingFits x) (leb depth depth_ceiling) (reading text) (refusal 2 0) (λ e. reading-fits text)
+    (λ e. (omega arith, omega arith)))
+    (λ h. (omega arith, omega arith))
 
 says-fits : (x : Reading) (depth : ℕ) (v : Verdict) → ReadingFits x → ReadingSays x depth v → VerdictFits v
-says-fits (refusal f) depth v h s = subst (λ (w : Verdict). VerdictFits w) (sym s) h
+says-fits (refusal k p) depth v f s = subst (λ (w : Verdict). VerdictFits w) (sym s) (refusal-fits k p f)
 says-fits (guard g u) depth Covered f s = tt
 says-fits (guard g u) depth (Gap t) f s =
     let below : t < 2 ^ length u = trial-below (Flags (length u)) (triplets 0 g) (literal 0 g) depth (length u) t s.1 in
@@ -124,11 +110,11 @@ check-fits text depth v s = says-fits (asked text depth) depth v (asked-fits tex
 -- ---- evaluate
 evaluated-fits : (x : Reading) (state : ℕ) → ReadingFits x → EvaluationFits (evaluated x state)
 unfolding evaluated
-evaluated-fits (refusal f) state h = h
+evaluated-fits (refusal k p) state f = refusal-fits k p f
 evaluated-fits (guard g u) state f =
     choose-has (λ (e : Evaluation). EvaluationFits e) (ltb state (2 ^ length u)) (evaluation.Value (value (length u) state g))
-    (evaluation.Refused (fault 9 0))
-    (λ h. tt) (λ h. fault-fits 9 0 (omega arith) (omega arith))
+    (evaluation.Refused (record { number = 9; place = 0 }))
+    (λ h. tt) (λ h. refusal-fits 9 0 (omega arith, omega arith))
 
 pub evaluate-fits : (text : List ℕ) (state : ℕ) (r : Evaluation) → r ≡ evaluated (reading text) state → EvaluationFits r
 evaluate-fits text state r e = subst (λ (x : Evaluation). EvaluationFits x) (sym e) (evaluated-fits (reading text) state (reading-fits text))
@@ -169,11 +155,11 @@ found-fits n g start room few h =
 
 listed-fits : (x : Reading) (start room : ℕ) → ReadingFits x → ListingFits (listed x start room)
 unfolding listed
-listed-fits (refusal f) start room h = h
+listed-fits (refusal k p) start room f = refusal-fits k p f
 listed-fits (guard g u) start room f =
     choose-has (λ (x : Listing). ListingFits x) (ltb start (2 ^ length u)) (listing.Gaps (writing.found (gaps_from (length u) g start) room))
-    (listing.Refused (fault 9 0))
-    (λ h. found-fits (length u) g start room f.flags (ltb-true start (2 ^ length u) h)) (λ h. fault-fits 9 0 (omega arith) (omega arith))
+    (listing.Refused (record { number = 9; place = 0 }))
+    (λ h. found-fits (length u) g start room f.flags (ltb-true start (2 ^ length u) h)) (λ h. refusal-fits 9 0 (omega arith, omega arith))
 
 pub list-fits : (text : List ℕ) (start room : ℕ) (r : Listing) → r ≡ listed (reading text) start room → ListingFits r
 list-fits text start room r e = subst (λ (x : Listing). ListingFits x) (sym e) (listed-fits (reading text) start room (reading-fits text))
@@ -181,18 +167,17 @@ list-fits text start room r e = subst (λ (x : Listing). ListingFits x) (sym e) 
 -- ---- read
 answer-fits : (x : Reading) (room : ℕ) → ReadingFits x → ParsedFits (read_answer x room)
 unfolding read_answer
-answer-fits (refusal f) room h = h
+answer-fits (refusal k p) room f = refusal-fits k p f
 answer-fits (guard g u) room f =
-    choose-has (λ (x : Parsed). ParsedFits x) (leb (3 * connectives g) room) (guard_with (length u) (connectives g) (literal 0 g))
-    (parsed.Refused (fault 10 0))
-    (λ h. record { flags = f.flags; count = f.count; root = f.root }) (λ h. fault-fits 10 0 (omega arith) (omega arith))
+    choose-has (λ (x : Parsed). ParsedFits x) (leb (3 * connectives g) room) (guard_with (length u) (connectives g) (literal 0 g)) (refused_with 10 0)
+    (λ h. record { flags = f.flags; count = f.count; root = f.root }) (λ h. refusal-fits 10 0 (omega arith, omega arith))
 
 pub read_fits : (text : List ℕ) (room : ℕ) (r : Parsed) → r ≡ read_answer (reading text) room → ParsedFits r
 read_fits text room r e = subst (λ (x : Parsed). ParsedFits x) (sym e) (answer-fits (reading text) room (reading-fits text))
 
 -- ---- name
-no-flag-fits : NamedFits (named.Refused (fault 11 0))
-no-flag-fits = fault-fits 11 0 (omega arith) (omega arith)
+no-flag-fits : NamedFits (unnamed 11 0)
+no-flag-fits = refusal-fits 11 0 (omega arith, omega arith)
 
 name-in-fits : (u : List Flag) (i : ℕ) → FlagsFit u → NamedFits (name_in u i)
 unfolding name_in
@@ -203,33 +188,8 @@ name-in-fits (x ∷ u) (suc (suc i)) f = name-in-fits u (suc i) f.1
 
 named-fits : (x : Reading) (i : ℕ) → ReadingFits x → NamedFits (name_answer x i)
 unfolding name_answer
-named-fits (refusal f) i h = h
+named-fits (refusal k p) i f = refusal-fits k p f
 named-fits (guard g u) i f = name-in-fits u i f.places
 
 pub name-fits : (text : List ℕ) (i : ℕ) (r : Named) → r ≡ name_answer (reading text) i → NamedFits r
 name-fits text i r e = subst (λ (x : Named). NamedFits x) (sym e) (named-fits (reading text) i (reading-fits text))
-
--- ---- why
-refusal-answer : (e : Explanation) (f : Refusal) → e ≡ explanation.Refused f → RefusalFits f → ExplanationFits e
-refusal-answer e f h x = subst (λ (z : Explanation). ExplanationFits z) (sym h) x
-
-kept-answer : (e : Explanation) (m : ℕ) → e ≡ explanation.Kept m → ExplanationFits e
-kept-answer e m h = subst (λ (z : Explanation). ExplanationFits z) (sym h) tt
-
-gap-explained : (n : ℕ) (g : Guard) (state : ℕ) (b : Bool) (e : Explanation)
-    → choose b (e ≡ explanation.Refused (fault 16 0)) (KeptOf n g state e) → ExplanationFits e
-gap-explained n g state true e p = refusal-answer e (fault 16 0) p (fault-fits 16 0 (omega arith) (omega arith))
-gap-explained n g state false e p = kept-answer e (state_with n p.0) p.2
-
-state-explained : (n : ℕ) (g : Guard) (state : ℕ) (a : Bool) (e : Explanation)
-    → choose a (choose (value n state g) (e ≡ explanation.Refused (fault 16 0)) (KeptOf n g state e)) (e ≡ explanation.Refused (fault 9 0))
-    → ExplanationFits e
-state-explained n g state true e p = gap-explained n g state (value n state g) e p
-state-explained n g state false e p = refusal-answer e (fault 9 0) p (fault-fits 9 0 (omega arith) (omega arith))
-
-explained-fits : (x : Reading) (state : ℕ) (e : Explanation) → ReadingFits x → Explains x state e → ExplanationFits e
-explained-fits (refusal f) state e h p = refusal-answer e f p h
-explained-fits (guard g u) state e h p = state-explained (length u) g state (ltb state (2 ^ length u)) e p
-
-pub why-fits : (text : List ℕ) (state : ℕ) (e : Explanation) → Explains (reading text) state e → ExplanationFits e
-why-fits text state e p = explained-fits (reading text) state e (reading-fits text) p

@@ -1,4 +1,3 @@
 pub mod Fitting
 pub mod Unique
 pub mod Apart
-pub mod Answers

@@ -6,12 +6,7 @@ use Rattle.evaluate.specs.Evaluated.{evaluated}
 use Rattle.list.specs.Listed.{listed, filled}
 use Rattle.guard_check.specs.Check.{CheckSays}
 use Rattle.saturation.specs.declared.verdict.Verdict.{Verdict}
-use Rattle.pack_check.specs.PackCheck.{PackChecked}
-use Rattle.pack_check.specs.declared.verdict.PackVerdict.{PackVerdict}
-use Rattle.why.specs.Explained.{Explains}
-use Rattle.why.specs.declared.Explanation.{Explanation}
-use Rattle.importer.specs.Packed.{packed_verdict, packed_evaluation, packed_listing, packed_parsed, packed_named, packed_explanation, kept_after}
-use Rattle.importer.specs.Handed.{pack_number, handed}
+use Rattle.importer.specs.Packed.{packed_verdict, packed_evaluation, packed_listing, packed_parsed, packed_named}
 
 -- check answers the number of the verdict on the text at the depth
 pub record CheckAnswers (text : List ℕ) (depth r : ℕ) : Type 0 where
@@ -36,17 +31,3 @@ pub record ReadAnswers (text room : List ℕ) (r : ℕ) (after : List ℕ) : Typ
 -- name answers the number of the part where flag i first stands
 abbrev pub name_number : List ℕ → ℕ → ℕ
 name_number text i = packed_named (name_answer (reading text) i)
-
--- check of a pack answers 0 and hands both answers out, or answers the refusal's number and leaves what is lent as it was
-pub record PackAnswers (file : List ℕ) (depth : ℕ) (before : List ℕ) (r : ℕ) (after : List ℕ) : Type 0 where
-  pub verdict : PackVerdict
-  pub says : PackChecked file depth verdict
-  pub number : r ≡ pack_number verdict
-  pub holds : after ≡ handed verdict before
-
--- why answers the number of its explanation, and the lent number holds the kept flags
-pub record WhyAnswers (text : List ℕ) (state : ℕ) (kept : List ℕ) (r : ℕ) (after : List ℕ) : Type 0 where
-  pub explanation : Explanation
-  pub says : Explains (reading text) state explanation
-  pub number : r ≡ packed_explanation explanation
-  pub holds : after ≡ kept_after explanation kept

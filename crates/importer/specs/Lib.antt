@@ -1,4 +1,3 @@
 pub mod Packed
-pub mod Handed
 pub mod Entries
 pub mod clauses

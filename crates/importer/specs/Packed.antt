@@ -1,5 +1,5 @@
 -- How an answer is one number: kind x 2^32 + payload.
-use Rattle.std.specs.Prelude.{ℕ, ◌+◌, ◌*◌, ◌^◌, List, [], ◌∷◌}
+use Rattle.std.specs.Prelude.{ℕ, ◌+◌, ◌*◌, ◌^◌}
 use Rattle.ground.specs.Choice.{choose}
 use Rattle.notation.specs.declared.refusal.Refusal.{Refusal}
 use Rattle.reading.specs.declared.parse.Parsed.{Parsed}
@@ -14,16 +14,14 @@ use Rattle.list.specs.declared.Listing.{Listing}
 use Rattle.list.specs.declared.Listing.TheVariants as listing
 use Rattle.saturation.specs.declared.verdict.Verdict.{Verdict}
 use Rattle.saturation.specs.declared.verdict.Verdict.TheVariants as verdict
-use Rattle.why.specs.declared.Explanation.{Explanation}
-use Rattle.why.specs.declared.Explanation.TheVariants as explanation
 
 -- a kind with its payload
 abbrev pub packed : ℕ → ℕ → ℕ
 packed kind payload = kind * 2 ^ 32 + payload
 
--- kind 3 is refused, in every entry: wanted x 2^24 + number x 2^16 + place
+-- kind 3 is refused, in every entry: number x 2^16 + place
 abbrev pub packed_refusal : Refusal → ℕ
-packed_refusal f = packed 3 (f.wanted * 2 ^ 24 + f.number * 2 ^ 16 + f.place)
+packed_refusal f = packed 3 (f.number * 2 ^ 16 + f.place)
 
 -- check: kind 0 covered, 1 gap with its state, 2 undecided
 abbrev pub packed_verdict : Verdict → ℕ
@@ -55,12 +53,3 @@ packed_parsed (parsed.Refused f) = packed_refusal f
 abbrev pub packed_named : Named → ℕ
 packed_named (named.Part start len) = packed 0 (start * 2 ^ 16 + len)
 packed_named (named.Refused f) = packed_refusal f
-
--- why: kind 0, and the lent number holds the kept flags; a refusal leaves it alone
-abbrev pub packed_explanation : Explanation → ℕ
-packed_explanation (explanation.Kept m) = packed 0 0
-packed_explanation (explanation.Refused f) = packed_refusal f
-
-abbrev pub kept_after : Explanation → List ℕ → List ℕ
-kept_after (explanation.Kept m) kept = m ∷ []
-kept_after (explanation.Refused f) kept = kept

@@ -1,21 +1,15 @@
 // The C side: entries over the bytes of a text, each answering one packed number. include/trestulan.h declares them.
-pub mod handing;
 pub mod packing;
 
 ghost use Rattle.std.specs.Prelude.{◌≡◌};
-ghost use Rattle.importer.specs.Entries.{CheckAnswers, evaluate_number, ListAnswers, ReadAnswers, name_number, PackAnswers, WhyAnswers};
+ghost use Rattle.importer.specs.Entries.{CheckAnswers, evaluate_number, ListAnswers, ReadAnswers, name_number};
 
 use evaluate::evaluate;
 use guard_check::check::check;
-use handing::{PACK_ANSWERS, hand_out};
 use list::list;
-use pack_check::check::check_pack;
-use packing::{
-    pack_evaluation, pack_explanation, pack_listing, pack_named, pack_parsed, pack_verdict,
-};
+use packing::{pack_evaluation, pack_listing, pack_named, pack_parsed, pack_verdict};
 use reading::name::name;
 use reading::read::read;
-use why::why;
 
 // The verdict on a text at a depth.
 #[unsafe(no_mangle)]
@@ -60,26 +54,4 @@ pub extern "C" fn trestulan_name(text: &[u8], i: u64) -> u64
 {
     let named = name(text, i);
     pack_named(named)
-}
-
-// Checks a line pack at a depth: whether its variants leave a gap, and the first two of them that can stand together.
-#[unsafe(no_mangle)]
-pub extern "C" fn trestulan_check_pack(
-    pack: &[u8],
-    depth: u64,
-    answers: &mut [u64; PACK_ANSWERS],
-) -> u64
-    ensures { PackAnswers pack.now depth answers.old result answers.new }
-{
-    let verdict = check_pack(pack, depth);
-    hand_out(verdict, answers)
-}
-
-// Which flags of a gap force it, none to spare: the lent number holds them, the first flag as the highest bit.
-#[unsafe(no_mangle)]
-pub extern "C" fn trestulan_why(text: &[u8], state: u64, kept: &mut [u64; 1]) -> u64
-    ensures { WhyAnswers text.now state kept.old result kept.new }
-{
-    let explanation = why(text, state);
-    pack_explanation(explanation, kept)
 }

@@ -1,9 +1,7 @@
 // Packs each answer into one number: kind x 2^32 + payload.
 ghost use Rattle.std.specs.Prelude.{◌≡◌, ◌^◌, ◌≤◌, ◌<◌};
-ghost use Rattle.importer.specs.Packed.{packed, packed_refusal, packed_verdict, packed_evaluation, packed_found, packed_listing, packed_parsed};
-ghost use Rattle.importer.specs.Packed.{packed_named, packed_explanation, kept_after};
+ghost use Rattle.importer.specs.Packed.{packed, packed_refusal, packed_verdict, packed_evaluation, packed_found, packed_listing, packed_parsed, packed_named};
 ghost use Rattle.importer.specs.clauses.Fits.{RefusalFits, VerdictFits, EvaluationFits, FoundFits, ListingFits, ParsedFits, NamedFits};
-ghost use Rattle.importer.specs.clauses.Fits.{ExplanationFits};
 
 use evaluate::Evaluation;
 use gaps::writing::Found;
@@ -12,7 +10,6 @@ use notation::refusal::Refusal;
 use reading::name::Named;
 use reading::parse::Parsed;
 use saturation::verdict::Verdict;
-use why::Explanation;
 
 // What a kind counts, 2^32.
 const KIND: u64 = 4294967296;
@@ -20,8 +17,8 @@ const KIND: u64 = 4294967296;
 // What the upper of two parts of a payload counts, 2^16.
 const UPPER: u64 = 65536;
 
-// What the top of three parts of a payload counts, 2^24.
-const TOP: u64 = 16777216;
+// What the flags count in the payload of read, 2^24.
+const FLAGS: u64 = 16777216;
 
 // A kind with its payload.
 fn number_of(kind: u64, payload: u64) -> u64
@@ -37,10 +34,7 @@ fn pack_refusal(refusal: Refusal) -> u64
     requires { RefusalFits refusal }
     ensures { result ≡ packed_refusal refusal }
 {
-    number_of(
-        3,
-        refusal.wanted as u64 * TOP + refusal.number as u64 * UPPER + refusal.place as u64,
-    )
+    number_of(3, refusal.number as u64 * UPPER + refusal.place as u64)
 }
 
 // The answer of check.
@@ -96,7 +90,7 @@ pub fn pack_parsed(parsed: Parsed) -> u64
     match parsed {
         Parsed::Guard(guard) => number_of(
             0,
-            guard.flags as u64 * TOP + guard.count as u64 * UPPER + guard.root as u64,
+            guard.flags as u64 * FLAGS + guard.count as u64 * UPPER + guard.root as u64,
         ),
         Parsed::Refused(refusal) => pack_refusal(refusal),
     }
@@ -110,19 +104,5 @@ pub fn pack_named(named: Named) -> u64
     match named {
         Named::Part { start, len } => number_of(0, start as u64 * UPPER + len as u64),
         Named::Refused(refusal) => pack_refusal(refusal),
-    }
-}
-
-// The answer of why, whose flags go into the lent number.
-pub fn pack_explanation(explanation: Explanation, kept: &mut [u64; 1]) -> u64
-    requires { ExplanationFits explanation }
-    ensures { (result ≡ packed_explanation explanation) × (kept.new ≡ kept_after explanation kept.old) }
-{
-    match explanation {
-        Explanation::Kept(flags) => {
-            *kept = [flags];
-            number_of(0, 0)
-        }
-        Explanation::Refused(refusal) => pack_refusal(refusal),
     }
 }

@@ -11,13 +11,13 @@ use Rattle.notation.specs.Walk.{Flag, refused, walk, operand, after}
 use Rattle.notation.specs.Guard.{Guard, joined}
 use Rattle.notation.specs.Grammar.{Level, past, sign_next, left_level, to_the_right}
 use Rattle.notation.specs.Triplets.{triplet_of}
-use Rattle.notation.specs.clauses.Writing.{triplet_at, Writes}
+use Rattle.notation.specs.clauses.Writing.{triplet_at}
 use Rattle.notation.specs.clauses.Cut.{ahead}
 use Rattle.notation.specs.clauses.Codes.{flags_in, InText}
 use Rattle.operands.specs.clauses.Steps.{At, Part, binding, kind_is, joined_part, Standing, Advanced}
-use Rattle.levels.specs.clauses.Levels.{plain, Reads, FoundPart}
+use Rattle.levels.specs.clauses.Levels.{plain, Reads, Writes, FoundPart}
 use Rattle.notation.specs.declared.refusal.Refusal.{Refusal}
-use Rattle.notation.proofs.Written.{writes-joined}
+use Rattle.levels.proofs.Written.{writes-joined}
 use Rattle.operands.proofs.Stepping.{next-kind}
 use Rattle.levels.proofs.Leveling.{Chain, chain_first, chain_more, chain-done, right-one, right-two, past-sign}
 
@@ -54,8 +54,9 @@ module _ (s : Sign) (next : Level) (d k : ℕ) (text : List ℕ) (at : At) (code
 
   module _ {left : Part} {codes out : List ℕ} (l : SoFar left codes out) where
     -- the sign is refused
-    pub so-far-no-sign : (f : Refusal) → ((e : ℕ) (u : List Flag) → walk after e u left.at.signs (ahead text left.at.token) ≡ refused f) →
-        walk operand d (flags_at text codes₀ at) at.signs (ahead text at.token) ≡ refused f
+    pub so-far-no-sign : (f : Refusal) → ((e : ℕ) (u : List Flag) → walk after e u left.at.signs (ahead text left.at.token) ≡ refused
+        f.number f.place) →
+        walk operand d (flags_at text codes₀ at) at.signs (ahead text at.token) ≡ refused f.number f.place
     so-far-no-sign f h = l.chain.walked ∙ h d (flags_at text codes left.at)
 
     module _ (to : At) (sign : kind_is s left.at.token.kind ≡ true) (past-it : PassedSign text left.at to) where
@@ -71,9 +72,9 @@ module _ (s : Sign) (next : Level) (d k : ℕ) (text : List ℕ) (at : At) (code
           ∙ ap (λ (ts : Tokens). walk operand d (flags_at text codes to) to.signs ts) past-it.0.tokens
 
       -- the operand after the sign is refused
-      pub so-far-no-operand : (f : Refusal) → walk operand d (flags_at text codes to) to.signs (ahead text to.token) ≡ refused f
+      pub so-far-no-operand : (f : Refusal) → walk operand d (flags_at text codes to) to.signs (ahead text to.token) ≡ refused f.number f.place
           →
-          walk operand d (flags_at text codes₀ at) at.signs (ahead text at.token) ≡ refused f
+          walk operand d (flags_at text codes₀ at) at.signs (ahead text at.token) ≡ refused f.number f.place
       so-far-no-operand f h = walked_on ∙ h
 
       -- where the reader stands behind the sign is right

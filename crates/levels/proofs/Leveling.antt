@@ -16,7 +16,7 @@ use Rattle.notation.specs.Guard.{Guard, joined, connectives}
 use Rattle.notation.specs.Grammar.{Level, Parsed, found, follow, is_sign, sign_next, past, to_the_left, to_the_right, left_level}
 use Rattle.operands.specs.clauses.Steps.{binding}
 use Rattle.levels.specs.clauses.Levels.{plain, Reads}
-use Rattle.notation.proofs.Written.{connectives-joined}
+use Rattle.levels.proofs.Written.{connectives-joined}
 
 -- after an operand the walk passes a sign that is within the ceiling
 pub past-sign : (s : Sign) (d : ℕ) (u : List Flag) (m : ℕ) (ts : Tokens) → sign_next s ts ≡ true → m < connective_ceiling →

@@ -1,3 +1,4 @@
+pub mod Written
 pub mod Leveling
 pub mod Joining
 pub mod Nesting

@@ -7,8 +7,7 @@ use mathlib.Core.List.{List, ◌++◌, append-nil}
 use lib.ListN.{length, take, get_or}
 use Rattle.notation.specs.Ceilings.{bracket_ceiling}
 use Rattle.notation.specs.Tokens.{same}
-use Rattle.notation.specs.Refusals.{fault, misplaced}
-use Rattle.notation.specs.Walk.{walk, refused, operand, after, wants}
+use Rattle.notation.specs.Walk.{walk, refused, operand, after}
 use Rattle.notation.specs.Grammar.{in_brackets, left_level, same_of, implies_of, or_of, and_of}
 use Rattle.notation.specs.Triplets.{Triplet, numbers}
 use Rattle.notation.specs.clauses.Writing.{signed}
@@ -92,13 +91,12 @@ module _ {text p : List ℕ} {d : ℕ} {codes out wait : List ℕ} (a : Asks tex
   }
 
   -- a token that is no operand
-  pub not-operand : {r : Answer} {p' : List ℕ} → opens (kind_of (get_or p 0 0)) ≡ false →
-      RefusedSays (misplaced (wants operand d) (get_or p 1 0)) p r p' →
+  pub misplaced : {r : Answer} {p' : List ℕ} → opens (kind_of (get_or p 0 0)) ≡ false → RefusedSays 5 p r p' →
       Says (plain (operands_at d)) d 0 text p codes out wait r p' codes out wait
-  not-operand {r} {p'} k h =
+  misplaced {r} {p'} k h =
       says-refused h.refused
       (no_operand (kind_of (get_or p 0 0)) text (get_or p 1 0) (get_or p 2 0) d _ _ k
-      ∙ ap refused (sym h.refusal)) (rooms-as a.rooms h.kept.room)
+      ∙ ap (λ (x : ℕ). refused x (get_or p 1 0)) (sym h.number) ∙ ap (refused (get_or p' 6 0)) (sym h.start)) (rooms-as a.rooms h.kept.room)
 
 -- `!` before an operand
 pub record Banged (text p₀ p : List ℕ) (odd : ℕ) (bang : Bool) : Type 0 where
@@ -117,7 +115,7 @@ module _ {text p₀ p : List ℕ} {odd : ℕ} {bang : Bool} (b : Banged text p�
 
     module _ {p₁ : List ℕ} {r : Step} (h : AdvancedSays text p r p₁) where
       pub bang-refused : r ≡ step.Refused → (d : ℕ) (codes : List ℕ) →
-          walk operand d (flags_in text codes (get_or p₀ 3 0)) (get_or p₀ 4 0) (ahead text (token_in p₀)) ≡ refused (refusal_in p₁)
+          walk operand d (flags_in text codes (get_or p₀ 3 0)) (get_or p₀ 4 0) (ahead text (token_in p₀)) ≡ refused (get_or p₁ 6 0) (get_or p₁ 1 0)
       bang-refused e d codes = bangs-refused text (place p₀) (place p) odd b.passed is-bang (refusal_in p₁) (h.refused e) d _ _
 
       pub bang-less : r ≡ step.Taken → length text - get_or p₁ 1 0 < length text - get_or p 1 0
@@ -160,11 +158,12 @@ banged-none {text} {p} a e = record { passed = bangs-none text (place p) a.stand
 
 -- a guard in brackets
 module _ {text p : List ℕ} {d : ℕ} {codes out wait : List ℕ} (a : Asks text p d codes out wait) (k : kind_of (get_or p 0 0) ≡ kind.Opening) where
-  pub too-deep : {r : Answer} {p' : List ℕ} → bracket_ceiling ≤ d → RefusedSays (fault 6 (get_or p 1 0)) p r p' → Says
+  pub too-deep : {r : Answer} {p' : List ℕ} → bracket_ceiling ≤ d → RefusedSays 6 p r p' → Says
       (plain (operands_at d)) d 0 text p codes out wait r p' codes out wait
   too-deep {r} {p'} l h =
       says-refused h.refused
-      (bracket-refused text (place p) k d _ _ l ∙ ap refused (sym h.refusal))
+      (bracket-refused text (place p) k d _ _ l ∙ ap (λ (z : ℕ). refused z (get_or p 1 0)) (sym h.number) ∙ ap (refused (get_or p' 6 0))
+      (sym h.start))
       (rooms-as a.rooms h.kept.room)
 
   pub asks-past : (length p ≡ place_room) × (TokenFits text (token_in p) × (ends (kind_of (get_or p 0 0)) ≡ false))

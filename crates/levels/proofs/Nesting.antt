@@ -7,7 +7,6 @@ use mathlib.Core.Bool.{true, false, true≢false}
 use mathlib.Core.List.{List, ◌++◌}
 use lib.ListN.{take}
 use borrow.Author.Tests.{le-leb, lt-leb}
-use Rattle.notation.specs.Refusals.{fault}
 use Rattle.notation.specs.Ceilings.{connective_ceiling, bracket_ceiling}
 use Rattle.notation.specs.Tokens.{Tokens, Sign, opening, bang, at as token-at}
 use Rattle.notation.specs.Walk.{Flag, refused, walk, operand, after, within}
@@ -51,8 +50,7 @@ module _ (text : List ℕ) (at : At) (k : at.token.kind ≡ kind.Opening) (d : �
   opening-is = ahead-opening at.token.kind text at.token.start at.token.next k
 
   -- one too many
-  pub bracket-refused : (u : List Flag) (m : ℕ) → bracket_ceiling ≤ d →
-      walk operand d u m (ahead text at.token) ≡ refused (fault 6 at.token.start)
+  pub bracket-refused : (u : List Flag) (m : ℕ) → bracket_ceiling ≤ d → walk operand d u m (ahead text at.token) ≡ refused 6 at.token.start
   unfolding walk within
   bracket-refused u m h = ap (walk operand d u m) opening-is ∙ rw (lt-leb (suc d) bracket_ceiling (omega arith))
 
@@ -82,8 +80,8 @@ module _ (text : List ℕ) (at : At) (k : at.token.kind ≡ kind.Opening) (d : �
 
     -- a refusal inside is the bracket's
     pub inside-refused : (f : Refusal) → walk operand (d + 1) (flags_in text codes inside.flags) inside.signs
-        (ahead text inside.token) ≡ refused f →
-        walk operand d (flags_in text codes at.flags) at.signs (ahead text at.token) ≡ refused f
+        (ahead text inside.token) ≡ refused f.number f.place →
+        walk operand d (flags_in text codes at.flags) at.signs (ahead text at.token) ≡ refused f.number f.place
     inside-refused f e = into ∙ e
 
     pub inside-standing : Standing text codes at → Standing text codes inside
@@ -99,8 +97,9 @@ module _ (text : List ℕ) (at : At) (k : at.token.kind ≡ kind.Opening) (d : �
     module _ {part : Part} {codes' out' : List ℕ} (p : FoundPart (plain (same_of (operands_at (d + 1)))) (d + 1) 4 text inside codes out part codes'
         out') where
       -- no closing bracket follows
-      pub never-closed : (f : Refusal) → ((e : ℕ) (u : List Flag) (m : ℕ) → walk after (suc e) u m (ahead text part.at.token) ≡ refused f) →
-          walk operand d (flags_in text codes at.flags) at.signs (ahead text at.token) ≡ refused f
+      pub never-closed : (f : Refusal) → ((e : ℕ) (u : List Flag) (m : ℕ) → walk after (suc e) u m (ahead text part.at.token) ≡ refused
+          f.number f.place) →
+          walk operand d (flags_in text codes at.flags) at.signs (ahead text at.token) ≡ refused f.number f.place
       never-closed f e = into ∙ p.reads.walked ∙ ap (λ (n : ℕ). walk after n (flags_in text codes' part.at.flags) part.at.signs
           (ahead text part.at.token)) (add-one d) ∙ e d (flags_in text codes' part.at.flags) part.at.signs
 
@@ -230,7 +229,7 @@ module _ (text : List ℕ) (at here : At) (odd : ℕ) (b : Bangs text at here od
 
   -- what follows is faulty
   pub bangs-refused : (f : Refusal) → FaultyHere (past (ahead text here.token)) f → (d : ℕ) (u : List Flag) (m : ℕ) →
-      walk operand d u m (ahead text at.token) ≡ refused f
+      walk operand d u m (ahead text at.token) ≡ refused f.number f.place
   bangs-refused f a d u m = b.walked d u m ∙ bang-walked d u m ∙ a operand d u m
 
   -- one more
@@ -275,8 +274,9 @@ module _ (text : List ℕ) (at here : At) (odd : ℕ) (b : Bangs text at here od
   }
 
   -- the operand behind them is refused
-  pub behind-refused : (d : ℕ) (f : Refusal) → walk operand d (flags_in text codes here.flags) here.signs (ahead text here.token) ≡ refused f →
-      walk operand d (flags_in text codes at.flags) at.signs (ahead text at.token) ≡ refused f
+  pub behind-refused : (d : ℕ) (f : Refusal) → walk operand d (flags_in text codes here.flags) here.signs (ahead text here.token) ≡ refused
+      f.number f.place →
+      walk operand d (flags_in text codes at.flags) at.signs (ahead text at.token) ≡ refused f.number f.place
   behind-refused d f e = here-walked d ∙ e
 
   -- the operand behind them, turned

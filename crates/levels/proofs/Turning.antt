@@ -52,7 +52,7 @@ module _ {L : ℕ → Level} {d k : ℕ} {text p codes out wait : List ℕ} {r :
 
   -- none was
   pub says-refused : r ≡ answer.Refused →
-      walk operand d (flags_in text codes (get_or p 3 0)) (get_or p 4 0) (ahead text (token_in p)) ≡ refused (refusal_in p') → Rooms p' out'
+      walk operand d (flags_in text codes (get_or p 3 0)) (get_or p 4 0) (ahead text (token_in p)) ≡ refused (get_or p' 6 0) (get_or p' 1 0) → Rooms p' out'
       wait' →
       Says L d k text p codes out wait r p' codes' out' wait'
   says-refused e w n = record { found = λ m h. never-answer m r h e; refused = λ h. w; still = λ m h. never-answer m r h e; rooms = n }
@@ -101,7 +101,7 @@ module _ {s : Sign} {d : ℕ} {text p₀ codes₀ out₀ : List ℕ} {l : ℕ} {
 
   -- the sign is refused
   pub sign-refused : {p₁ : List ℕ} {r : Step} → PastSignSays text p r p₁ → r ≡ step.Refused →
-      walk operand d (flags_in text codes₀ (get_or p₀ 3 0)) (get_or p₀ 4 0) (ahead text (token_in p₀)) ≡ refused (refusal_in p₁)
+      walk operand d (flags_in text codes₀ (get_or p₀ 3 0)) (get_or p₀ 4 0) (ahead text (token_in p₀)) ≡ refused (get_or p₁ 6 0) (get_or p₁ 1 0)
   sign-refused {p₁} h e = so-far-no-sign s (below_of s (operands_at d)) d (tighter s) text (place p₀) codes₀ out₀ so.chain (refusal_in p₁)
       (h.refused e)
 
@@ -134,7 +134,7 @@ module _ {s : Sign} {d : ℕ} {text p₀ codes₀ out₀ : List ℕ} {l : ℕ} {
         (h : Says L d k text p₁ codes out wait r p₂ codes₂ out₂ wait₂) where
       -- the operand behind the sign is refused
       pub operand-refused : r ≡ answer.Refused →
-          walk operand d (flags_in text codes₀ (get_or p₀ 3 0)) (get_or p₀ 4 0) (ahead text (token_in p₀)) ≡ refused (refusal_in p₂)
+          walk operand d (flags_in text codes₀ (get_or p₀ 3 0)) (get_or p₀ 4 0) (ahead text (token_in p₀)) ≡ refused (get_or p₂ 6 0) (get_or p₂ 1 0)
       operand-refused e =
           so-far-no-operand s (below_of s (operands_at d)) d (tighter s) text (place p₀) codes₀ out₀ so.chain (place p₁) q.sign q.past
           (refusal_in p₂)

@@ -5,7 +5,6 @@ use mathlib.Core.Path.{◌≡◌, refl, sym, ap, subst, ◌∙◌}
 use mathlib.Core.Bool.{true, false}
 use mathlib.Core.List.{List, [], ◌∷◌}
 use lib.ListN.{length, get_or}
-use Rattle.notation.specs.declared.refusal.Refusal.{Refusal}
 use Rattle.notation.specs.Ceilings.{connective_ceiling, bracket_ceiling}
 use Rattle.notation.specs.Tokens.{Sign, implies}
 use Rattle.notation.specs.Walk.{walk, refused, operand}
@@ -73,9 +72,9 @@ module _ {s : Sign} {d : ℕ} {text p₀ codes₀ out₀ : List ℕ} {b l : ℕ}
   pub rising-opened : Sofar s d text r.q r.qcodes r.qout l p codes out
   rising-opened = opened r.last
 
-  pub rising-refused : {f : Refusal} →
-      walk operand d (flags_in text r.qcodes (get_or r.q 3 0)) (get_or r.q 4 0) (ahead text (token_in r.q)) ≡ refused f →
-      walk operand d (flags_in text codes₀ (get_or p₀ 3 0)) (get_or p₀ 4 0) (ahead text (token_in p₀)) ≡ refused f
+  pub rising-refused : {n m : ℕ} → walk operand d (flags_in text r.qcodes (get_or r.q 3 0)) (get_or r.q 4 0) (ahead text (token_in r.q)) ≡ refused
+      n m →
+      walk operand d (flags_in text codes₀ (get_or p₀ 3 0)) (get_or p₀ 4 0) (ahead text (token_in p₀)) ≡ refused n m
   rising-refused e = waiting-walked r.waits ∙ e
 
   -- it is set aside behind its sign, and the next operand is read

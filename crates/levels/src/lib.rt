@@ -12,8 +12,8 @@ use notation::ceilings::{BRACKETS, CODES_ROOM, CONNECTIVES, TRIPLETS_ROOM};
 use notation::place::{Connective, KIND, Kind, PLACE, Step, WAITING, kind_of};
 use notation::triplets::flipped;
 use operands::{
-    Answer, advanced, bang_follows, closed, code_operand, join_last, joined, no_operand, past_sign,
-    refused, set_aside, sign_follows, truth_operand,
+    Answer, advanced, bang_follows, closed, code_operand, join_last, joined, past_sign, refused,
+    set_aside, sign_follows, truth_operand,
 };
 
 // A guard: operands joined by `=`, which groups to the left.
@@ -239,10 +239,10 @@ fn plain(
         Kind::Code => code_operand(text, at, codes),
         Kind::Truth(truth) => truth_operand(text, at, truth),
         Kind::Opening => bracket(text, at, brackets, codes, out, wait),
-        Kind::End => no_operand(at),
-        Kind::Bang => no_operand(at),
-        Kind::Sign(_) => no_operand(at),
-        Kind::Closing => no_operand(at),
+        Kind::End => refused(at, 5),
+        Kind::Bang => refused(at, 5),
+        Kind::Sign(_) => refused(at, 5),
+        Kind::Closing => refused(at, 5),
     }
 }
 

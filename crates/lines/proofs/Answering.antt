@@ -5,7 +5,6 @@ use mathlib.Core.Path.{◌≡◌, sym, ap, subst}
 use mathlib.Core.List.{List, [], ◌∷◌}
 use lib.ListN.{length, drop, length-drop}
 use lib.Seq.{take_all}
-use borrow.Author.Tests.{eq-eqb, ne_eqb}
 use Rattle.notation.specs.clauses.Cut.{part}
 use Rattle.notation.specs.Reading.{reading}
 use Rattle.notation.specs.Ceilings.{flag_ceiling}
@@ -16,12 +15,12 @@ use Rattle.saturation.specs.declared.verdict.Verdict.{Verdict}
 use Rattle.saturation.specs.declared.verdict.Verdict.TheVariants.{Covered, Gap, Undecided, Refused}
 use Rattle.lines.specs.Lines.{line_feed}
 use Rattle.lines.specs.Question.{question, guard_in, QuestionSays}
-use Rattle.lines.specs.Printed.{decimal, valued, flags_of, wanted_after, answered, printed}
-use Rattle.lines.specs.clauses.Put.{Puts, PutsIn, number_room, wanted_room, value_room, verdict_room}
+use Rattle.lines.specs.Printed.{decimal, valued, flags_of, answered, printed}
+use Rattle.lines.specs.clauses.Put.{Puts, PutsIn, number_room, value_room, verdict_room}
 use Rattle.lines.specs.Answer.{Answers}
 use Rattle.lines.specs.declared.question.Question.{Question}
 use Rattle.lines.specs.declared.question.Question.TheVariants.{Asks}
-use Rattle.lines.proofs.Putting.{puts_none, puts_then, puts-inside}
+use Rattle.lines.proofs.Putting.{puts_then, puts-inside}
 
 -- ---- the verdict
 pub covered-put : (text : List ℕ) {a : List ℕ} {p : ℕ} {b : List ℕ} {r : ℕ} → Puts a p (bytes "covered") b r → PutsIn verdict_room a p
@@ -39,25 +38,16 @@ pub gap-put : (text : List ℕ) (state : ℕ) {a : List ℕ} {p : ℕ} {b : List
 unfolding answered bytes
 gap-put text state f g = record { puts = puts_then f g.puts; within = omega (arith, f.next, g.within) }
 
-pub nothing-wanted : (x : Refusal) (a : List ℕ) (p : ℕ) → (x.number ≡ 5 → ⊥) → PutsIn wanted_room a p (wanted_after x) a p
-unfolding wanted_after
-nothing-wanted x a p n = rw (ne_eqb x.number 5 n) (record { puts = puts_none a p; within = omega arith })
-
-pub wanted-put : (x : Refusal) → x.number ≡ 5 → {a : List ℕ} {p : ℕ} {b : List ℕ} {q : ℕ} {c : List ℕ} {r : ℕ}
-    → Puts a p (bytes " ") b q → PutsIn number_room b q (decimal x.wanted) c r → PutsIn wanted_room a p (wanted_after x) c r
-unfolding wanted_after bytes
-wanted-put x e f g = rw (eq-eqb x.number 5 e) (record { puts = puts_then f g.puts; within = omega (arith, f.next, g.within) })
-
 pub refusal-put : (text : List ℕ) (x : Refusal) {a : List ℕ} {p : ℕ} {b : List ℕ} {q : ℕ} {c : List ℕ} {s : ℕ} {d : List ℕ} {t : ℕ}
-    {e : List ℕ} {v : ℕ} {f : List ℕ} {r : ℕ}
+    {e : List ℕ} {r : ℕ}
     → Puts a p (bytes "refused ") b q → PutsIn number_room b q (decimal x.number) c s → Puts c s (bytes " ") d t → PutsIn number_room d t
-    (decimal x.place) e v → PutsIn wanted_room e v (wanted_after x) f r
-    → PutsIn verdict_room a p (answered text (Refused x)) f r
+    (decimal x.place) e r
+    → PutsIn verdict_room a p (answered text (Refused x)) e r
 unfolding answered bytes
-refusal-put text x f g h i w =
+refusal-put text x f g h i =
     record {
-      puts = puts_then f (puts_then g.puts (puts_then h (puts_then i.puts w.puts)));
-      within = omega (arith, f.next, g.within, h.next, i.within, w.within);
+      puts = puts_then f (puts_then g.puts (puts_then h i.puts));
+      within = omega (arith, f.next, g.within, h.next, i.within);
     }
 
 -- what is put for a verdict is put for one equal to it

@@ -6,7 +6,6 @@ use mathlib.Core.List.{List, [], ◌∷◌, ◌++◌}
 use lib.ListN.{length}
 use lib.Dec.{leb}
 use borrow.Author.Tests.{leb-true}
-use Rattle.notation.specs.Refusals.{fault}
 use Rattle.notation.specs.Ceilings.{text_ceiling, code_ceiling, flag_ceiling}
 use Rattle.notation.specs.Tokens.{tokens}
 use Rattle.notation.specs.Walk.{Flag, Outcome, refused, accepted, walk, operand}
@@ -26,14 +25,14 @@ use Rattle.lines.proofs.Putting.{puts_none}
 -- ---- codes are within their ceiling
 judged-fits : (o : Outcome) (g : Guard) → OutcomeFits o → FlagsFit (flags_of (judged o g))
 unfolding judged
-judged-fits (refused f) g h = tt
-judged-fits (accepted u m) g h = h
+judged-fits (refused k p) g f = tt
+judged-fits (accepted u m) g f = f
 
 reading-fits : (text : List ℕ) → FlagsFit (flags_of (reading text))
 unfolding reading
 reading-fits text =
     choose-has (λ (x : Reading). FlagsFit (flags_of x)) (leb (length text) text_ceiling) (judged (walk operand 0 [] 0 (tokens text)) (tree (tokens text)))
-    (refusal (fault 1 text_ceiling))
+    (refusal 1 text_ceiling)
     (λ h. judged-fits (walk operand 0 [] 0 (tokens text)) (tree (tokens text)) (text-fits text (leb-true (length text) text_ceiling h)))
     (λ h. tt)
 
@@ -72,7 +71,7 @@ module _ (text : List ℕ) (x : counted.Guard) (codes out : List ℕ) (f : Found
       }
 
 -- where the text is refused, nothing is put
-pub refused-put : (text : List ℕ) (f : Refusal) → reading text ≡ refusal f → (state : ℕ) (before : List ℕ) (at : ℕ)
+pub refused-put : (text : List ℕ) (f : Refusal) → reading text ≡ refusal f.number f.place → (state : ℕ) (before : List ℕ) (at : ℕ)
     → PutsIn (value_room * flag_ceiling) before at (valued (flags_of (reading text)) state) before at
 unfolding valued
 refused-put text f e state before at = rw e (record { puts = puts_none before at; within = omega arith })

@@ -1,7 +1,6 @@
 -- What is printed for a line.
-use Rattle.std.specs.Prelude.{ℕ, zero, suc, ◌+◌, ◌/◌, ◌%◌, Bool, List, [], ◌∷◌, ◌++◌, length, ltb, eqb}
+use Rattle.std.specs.Prelude.{ℕ, zero, suc, ◌+◌, ◌/◌, ◌%◌, Bool, List, [], ◌∷◌, ◌++◌, length, ltb}
 use Rattle.ground.specs.Choice.{choose}
-use Rattle.notation.specs.declared.refusal.Refusal.{Refusal}
 use Rattle.notation.specs.Walk.{Flag}
 use Rattle.notation.specs.Reading.{Reading, refusal, guard, reading}
 use Rattle.ground.specs.Bits.{bit}
@@ -34,19 +33,15 @@ valued (f ∷ u) state = flag_value f.name (bit state (length u)) ++ valued u st
 
 -- the flags of a guard that is read
 abbrev pub flags_of : Reading → List Flag
-flags_of (refusal f) = []
+flags_of (refusal number place) = []
 flags_of (guard g u) = u
-
--- after a 5 a space and what was wanted, after another number nothing
-unfoldable pub wanted_after : Refusal → List ℕ
-wanted_after f = choose (eqb f.number 5) (bytes " " ++ decimal f.wanted) []
 
 -- the answer to a question on a guard
 unfoldable pub answered : List ℕ → Verdict → List ℕ
 answered text Covered = bytes "covered"
 answered text (Gap state) = bytes "gap" ++ valued (flags_of (reading text)) state
 answered text Undecided = bytes "undecided"
-answered text (Refused f) = bytes "refused " ++ (decimal f.number ++ (bytes " " ++ (decimal f.place ++ wanted_after f)))
+answered text (Refused f) = bytes "refused " ++ (decimal f.number ++ (bytes " " ++ decimal f.place))
 
 -- the line number, a space, the answer, LF
 unfoldable pub printed : ℕ → List ℕ → Verdict → List ℕ

@@ -1,6 +1,5 @@
 -- What a line asks: a depth of one or two digits, one space, a guard.
 use Rattle.std.specs.Prelude.{ℕ, ◌+◌, ◌*◌, ◌-◌, ◌≡◌, Bool, List, [], get_or, drop, eqb}
-use Rattle.notation.specs.Refusals.{fault}
 use Rattle.notation.specs.Tokens.{among}
 use Rattle.ground.specs.Choice.{choose}
 use Rattle.guard_check.specs.Check.{CheckSays}
@@ -38,7 +37,7 @@ guard_in line (Asks depth start) = drop start line
 
 -- a line that is not of the form is refused 12; else check answers
 abbrev pub QuestionSays : List ℕ → Question → Verdict → Type 0
-QuestionSays line Malformed v = v ≡ Refused (fault 12 0)
+QuestionSays line Malformed v = v ≡ Refused (record { number = 12; place = 0 })
 QuestionSays line (Asks depth start) v = CheckSays (drop start line) depth v
 
 -- the guard of a line

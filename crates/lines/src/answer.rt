@@ -1,31 +1,19 @@
 // The answer to a line, as it is printed.
 ghost use Rattle.std.specs.Prelude.{◌+◌, ◌≤◌, [], length};
 ghost use Rattle.saturation.specs.declared.verdict.Verdict.TheVariants.{Gap, Refused};
-ghost use Rattle.lines.specs.clauses.Put.{Puts, PutsIn, wanted_room, verdict_room, answer_room};
-ghost use Rattle.lines.specs.Printed.{wanted_after, answered, printed};
+ghost use Rattle.lines.specs.clauses.Put.{Puts, PutsIn, verdict_room, answer_room};
+ghost use Rattle.lines.specs.Printed.{answered, printed};
 ghost use Rattle.lines.specs.Answer.{Answers};
 
 use crate::flags::put_flags;
 use crate::put::{put, put_all, put_number};
 use crate::question::{Question, question_of};
 use guard_check::check::check;
-use notation::refusal::{MISPLACED, Refusal, fault};
+use notation::refusal::Refusal;
 use saturation::verdict::Verdict;
 
 // Bytes of a room for any output line.
 pub const ANSWER: usize = 512;
-
-// After a 5 a space and what was wanted, after another number nothing.
-fn put_wanted(out: &mut [u8], at: usize, refusal: Refusal) -> usize
-    requires { at + wanted_room ≤ length out.old }
-    ensures { PutsIn wanted_room out.old at (wanted_after refusal) out.new result }
-{
-    if refusal.number == MISPLACED {
-        let wanted = put(out, at, b' ');
-        return put_number(out, wanted, refusal.wanted as u64);
-    }
-    at
-}
 
 fn put_refusal(out: &mut [u8], at: usize, refusal: Refusal) -> usize
     requires { at + verdict_room ≤ length out.old }
@@ -34,8 +22,7 @@ fn put_refusal(out: &mut [u8], at: usize, refusal: Refusal) -> usize
     let number = put_all(out, at, b"refused ");
     let space = put_number(out, number, refusal.number as u64);
     let place = put(out, space, b' ');
-    let wanted = put_number(out, place, refusal.place as u64);
-    put_wanted(out, wanted, refusal)
+    put_number(out, place, refusal.place as u64)
 }
 
 fn put_gap(out: &mut [u8], at: usize, text: &[u8], state: u64) -> usize
@@ -75,7 +62,10 @@ pub fn answer_line(number: u64, line: &[u8], out: &mut [u8; ANSWER]) -> usize
 {
     let question = question_of(line);
     let Question::Asks { depth, start } = question else {
-        let refusal = fault(12, 0);
+        let refusal = Refusal {
+            number: 12,
+            place: 0,
+        };
         return put_line(out, number, b"", Verdict::Refused(refusal));
     };
     let text = &line[start..];

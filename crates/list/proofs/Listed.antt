@@ -7,7 +7,6 @@ use native.Mathlib.Omega.{arith}
 use lib.ListN.{length}
 use lib.Dec.{ltb}
 use borrow.Author.Tests.{ltb-true}
-use Rattle.notation.specs.Refusals.{fault}
 use Rattle.notation.specs.Ceilings.{connective_ceiling}
 use Rattle.notation.specs.Reading.{refusal, reading}
 use Rattle.notation.specs.declared.refusal.Refusal.{Refusal}
@@ -23,16 +22,16 @@ use Rattle.list.specs.Listed.{listed, filled, Lists}
 use Rattle.list.proofs.OfGuard.{guard-gaps}
 
 module _ (text : List ℕ) (start : ℕ) (out : List ℕ) where
-  pub lists-refusal : (f : Refusal) → reading text ≡ refusal f → Lists text start out (Refused f) out
+  pub lists-refusal : (f : Refusal) → reading text ≡ refusal f.number f.place → Lists text start out (Refused f) out
   unfolding listed filled
   lists-refusal f e = record { answers = rw e refl; holds = rw e refl }
 
   module _ (x : counted.Guard) (codes xs : List ℕ) (f : serving.Found text (reading text) x codes xs) where
-    pub lists-no-state : ltb start (2 ^ x.flags) ≡ false → (k : Refusal) → k ≡ fault 9 0 → Lists text start out (Refused k) out
+    pub lists-no-state : ltb start (2 ^ x.flags) ≡ false → Lists text start out (Refused (record { number = 9; place = 0 })) out
     unfolding listed filled
-    lists-no-state h k e =
+    lists-no-state h =
         let late : ltb start (2 ^ length f.flags) ≡ false = rw (read_flags text x codes xs f) at h in
-        record { answers = rw (f.says, late) (ap Refused e); holds = rw (f.says, late) refl }
+        record { answers = rw (f.says, late) refl; holds = rw (f.says, late) refl }
 
     -- the search may be asked
     pub lists-searchable : length xs ≡ 3 * connective_ceiling → ltb start (2 ^ x.flags) ≡ true

@@ -1,7 +1,6 @@
 -- What list answers, and what the lent slice holds afterwards, for every text, every start and every slice.
 use Rattle.std.specs.Prelude.{ℕ, ◌^◌, ◌<◌, ◌≡◌, List, [], ◌∷◌, ◌⊎◌, length, ltb}
 use Rattle.ground.specs.Choice.{choose}
-use Rattle.notation.specs.Refusals.{fault}
 use Rattle.notation.specs.Reading.{Reading, refusal, guard, reading}
 use Rattle.list.specs.declared.Listing.{Listing}
 use Rattle.list.specs.declared.Listing.TheVariants.{Gaps, Refused}
@@ -10,13 +9,13 @@ use Rattle.gaps.specs.Writing.{found, placed}
 
 -- a refusal of reading is answered; then a start that is no state is refused 9; else the gaps from the start on are written, as far as there is room
 unfoldable pub listed : Reading → ℕ → ℕ → Listing
-listed (refusal f) start room = Refused f
+listed (refusal number p) start room = Refused (record { number = number; place = p })
 listed (guard g codes) start room =
-    choose (ltb start (2 ^ length codes)) (Gaps (found (gaps_from (length codes) g start) room)) (Refused (fault 9 0))
+    choose (ltb start (2 ^ length codes)) (Gaps (found (gaps_from (length codes) g start) room)) (Refused (record { number = 9; place = 0 }))
 
 -- the slice holds the gaps from the start on, as many as it has room for; a refusal leaves it alone
 unfoldable pub filled : Reading → ℕ → List ℕ → List ℕ
-filled (refusal f) start out = out
+filled (refusal number p) start out = out
 filled (guard g codes) start out = choose (ltb start (2 ^ length codes)) (placed (gaps_from (length codes) g start) out) out
 
 -- list's statement

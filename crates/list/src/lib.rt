@@ -3,7 +3,7 @@ ghost use Rattle.list.specs.Listed.{Lists};
 
 use gaps::writing::Found;
 use notation::ceilings::{CODES_ROOM, TRIPLETS_ROOM};
-use notation::refusal::{Refusal, fault};
+use notation::refusal::Refusal;
 use reading::parse::{Parsed, parse};
 use search::search;
 use truth::states::is_state;
@@ -27,7 +27,10 @@ pub fn list(text: &[u8], start: u64, out: &mut [u32]) -> Listing
         Parsed::Guard(guard) => guard,
     };
     if !is_state(start, guard.flags) {
-        return Listing::Refused(fault(9, 0));
+        return Listing::Refused(Refusal {
+            number: 9,
+            place: 0,
+        });
     }
     let found = search(&triplets, guard.count, guard.root, guard.flags, start, out);
     Listing::Gaps(found)

@@ -1,4 +1,4 @@
--- The nine numbers of a place: what they say after a store, and the kinds that numbers stand for.
+-- The eight numbers of a place: what they say after a store, and the kinds that numbers stand for.
 use Prim.Native.Nat.{ℕ, zero, suc, ◌+◌, ◌≤◌, ◌<◌}
 use native.Mathlib.Omega.{arith}
 use mathlib.Core.Path.{◌≡◌, refl, sym, ap, subst, ◌∙◌}
@@ -23,20 +23,19 @@ use Rattle.notation.specs.declared.place.Step.TheVariants as step
 use Rattle.ground.proofs.Cases.{lt-or-ge}
 use Rattle.notation.proofs.Cutting.{cut-mark, later-token, later-fault}
 
--- what holds of nine numbers holds of a list of length 9
-pub nine : (P : List ℕ → Type 0) → ((a b c d e f g h i : ℕ) → P (a ∷ b ∷ c ∷ d ∷ e ∷ f ∷ g ∷ h ∷ i ∷ [])) →
-    (p : List ℕ) → length p ≡ place_room → P p
-nine P q [] l = absurd (omega arith)
-nine P q (a ∷ []) l = absurd (omega arith)
-nine P q (a ∷ b ∷ []) l = absurd (omega arith)
-nine P q (a ∷ b ∷ c ∷ []) l = absurd (omega arith)
-nine P q (a ∷ b ∷ c ∷ d ∷ []) l = absurd (omega arith)
-nine P q (a ∷ b ∷ c ∷ d ∷ e ∷ []) l = absurd (omega arith)
-nine P q (a ∷ b ∷ c ∷ d ∷ e ∷ f ∷ []) l = absurd (omega arith)
-nine P q (a ∷ b ∷ c ∷ d ∷ e ∷ f ∷ g ∷ []) l = absurd (omega arith)
-nine P q (a ∷ b ∷ c ∷ d ∷ e ∷ f ∷ g ∷ h ∷ []) l = absurd (omega arith)
-nine P q (a ∷ b ∷ c ∷ d ∷ e ∷ f ∷ g ∷ h ∷ i ∷ []) l = q a b c d e f g h i
-nine P q (a ∷ b ∷ c ∷ d ∷ e ∷ f ∷ g ∷ h ∷ i ∷ x ∷ xs) l = absurd (omega arith)
+-- what holds of eight numbers holds of a list of length 8
+pub eight : (P : List ℕ → Type 0) → ((a b c d e f g h : ℕ) → P (a ∷ b ∷ c ∷ d ∷ e ∷ f ∷ g ∷ h ∷ [])) → (p : List ℕ) → length p
+    ≡ place_room → P p
+eight P q [] l = absurd (omega arith)
+eight P q (a ∷ []) l = absurd (omega arith)
+eight P q (a ∷ b ∷ []) l = absurd (omega arith)
+eight P q (a ∷ b ∷ c ∷ []) l = absurd (omega arith)
+eight P q (a ∷ b ∷ c ∷ d ∷ []) l = absurd (omega arith)
+eight P q (a ∷ b ∷ c ∷ d ∷ e ∷ []) l = absurd (omega arith)
+eight P q (a ∷ b ∷ c ∷ d ∷ e ∷ f ∷ []) l = absurd (omega arith)
+eight P q (a ∷ b ∷ c ∷ d ∷ e ∷ f ∷ g ∷ []) l = absurd (omega arith)
+eight P q (a ∷ b ∷ c ∷ d ∷ e ∷ f ∷ g ∷ h ∷ []) l = q a b c d e f g h
+eight P q (a ∷ b ∷ c ∷ d ∷ e ∷ f ∷ g ∷ h ∷ x ∷ xs) l = absurd (omega arith)
 
 as_it_was : {p p' : List ℕ} → get_or p' 3 0 ≡ get_or p 3 0 → get_or p' 4 0 ≡ get_or p 4 0 → get_or p' 5 0 ≡ get_or p 5 0 → get_or p' 7 0 ≡ get_or
     p 7 0 →
@@ -46,15 +45,14 @@ as_it_was a b c d e = record { flags = a; signs = b; count = c; waits = d; room 
 -- a token stored
 pub stored : (k s e : ℕ) (p : List ℕ) → length p ≡ place_room → Stored k s e p (set (set (set p 0 k) 1 s) 2 e)
 stored k s e p l =
-    nine (λ q. Stored k s e q (set (set (set q 0 k) 1 s) 2 e)) (λ a b c d e₁ f g h i. record { token = refl; behind = as_it_was refl refl refl refl refl })
+    eight (λ q. Stored k s e q (set (set (set q 0 k) 1 s) 2 e)) (λ a b c d e₁ f g h. record { token = refl; behind = as_it_was refl refl refl refl refl })
     p l
 
 -- a refusal stored
-pub refused-at : (n s w : ℕ) (p : List ℕ) → length p ≡ place_room →
-    RefusedAt (record { number = n; place = s; wanted = w }) p step.Refused (set (set (set p 6 n) 1 s) 8 w)
-refused-at n s w p l =
-    nine (λ q. RefusedAt (record { number = n; place = s; wanted = w }) q step.Refused (set (set (set q 6 n) 1 s) 8 w))
-    (λ a b c d e f g h i. record { answer = refl; refusal = refl; behind = as_it_was refl refl refl refl refl }) p l
+pub refused-at : (n s : ℕ) (p : List ℕ) → length p ≡ place_room → RefusedAt n s p step.Refused (set (set p 6 n) 1 s)
+refused-at n s p l =
+    eight (λ q. RefusedAt n s q step.Refused (set (set q 6 n) 1 s))
+    (λ a b c d e f g h. record { answer = refl; refusal = refl; behind = as_it_was refl refl refl refl refl }) p l
 
 -- a step is not both taken and refused
 pub never_both : {A : Type 0} (r : Step) → r ≡ step.Taken → r ≡ step.Refused → A
@@ -81,9 +79,10 @@ taken-stored {text} {p} {p'} {from} t n = record {
 }
 
 -- the refusal that was stored is that of the next token
-pub refused-stored : {text p p' : List ℕ} {from : ℕ} {f : Refusal} {r : Step} → RefusedAt f p r p' → FaultyHere (tokens_at text from) f →
+pub refused-stored : {text p p' : List ℕ} {from n s : ℕ} {r : Step} → RefusedAt n s p r p' → FaultyHere (tokens_at text from)
+    (record { number = n; place = s }) →
     CutSays text from p r p'
-refused-stored {text} {p} {p'} {from} {f} {r} t h = record {
+refused-stored {text} {p} {p'} {from} {n} {s} {r} t h = record {
   taken = λ e. never_both r e t.answer;
   refused = λ _. subst (λ (x : Refusal). FaultyHere (tokens_at text from) x) (sym t.refusal) h;
   behind = t.behind;

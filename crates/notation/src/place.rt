@@ -1,12 +1,9 @@
-// Where the reader stands, as nine lent numbers. Each number of a place has a name.
+// Where the reader stands, as eight lent numbers. Each number of a place has a name.
 ghost use Rattle.std.specs.Prelude.{◌≡◌, ◌+◌, ◌≤◌, ◌<◌, length};
-ghost use Rattle.notation.specs.Refusals.{fault, misplaced};
 ghost use Rattle.notation.specs.clauses.Place.{place_room, kind_of, Stored, RefusedAt};
 
-use crate::refusal::MISPLACED;
-
 // The numbers of a place.
-pub const PLACE: usize = 9;
+pub const PLACE: usize = 8;
 
 // The kind of the token ahead, the place of its first byte and the place after its last. A refusal stands at the first byte.
 pub const KIND: usize = 0;
@@ -27,9 +24,6 @@ pub const NUMBER: usize = 6;
 
 // How many literals wait for what their `>` leads to.
 pub const WAITING: usize = 7;
-
-// What was wanted where a token cannot stand; 0 with every other refusal.
-pub const WANTED: usize = 8;
 
 // A two-sided connective: `=`, `>`, `|`, `&`.
 #[derive(Drop)]
@@ -52,7 +46,7 @@ pub enum Kind {
     Closing,
 }
 
-// Whether the reader came past a token. A refusal stands in the lent place.
+// Whether the reader came past a token. A refusal's number and place stand in the lent place.
 #[derive(Drop)]
 pub enum Step {
     Taken,
@@ -91,21 +85,9 @@ pub fn store(at: &mut [usize; PLACE], kind: usize, start: usize, next: usize)
 // Refused with this number at this place.
 pub fn refuse(at: &mut [usize; PLACE], number: usize, start: usize) -> Step
     requires { length at.old ≡ place_room }
-    ensures { RefusedAt (fault number start) at.old result at.new }
+    ensures { RefusedAt number start at.old result at.new }
 {
     at[NUMBER] = number;
     at[START] = start;
-    at[WANTED] = 0;
-    Step::Refused
-}
-
-// Refused at this place, where something else was wanted.
-pub fn misplace(at: &mut [usize; PLACE], wanted: usize, start: usize) -> Step
-    requires { length at.old ≡ place_room }
-    ensures { RefusedAt (misplaced wanted start) at.old result at.new }
-{
-    at[NUMBER] = MISPLACED;
-    at[START] = start;
-    at[WANTED] = wanted;
     Step::Refused
 }

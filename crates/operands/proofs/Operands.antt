@@ -7,11 +7,10 @@ use mathlib.Core.List.{List, [], ◌∷◌, ◌++◌}
 use lib.ListN.{length, get_or, set, length-append, length-set}
 use lib.Dec.{leb}
 use borrow.Author.Tests.{le-leb, lt-leb}
-use Rattle.notation.specs.Refusals.{fault, misplaced}
 use Rattle.notation.specs.Ceilings.{flag_ceiling}
 use Rattle.notation.specs.Tokens.{Tokens, Sign, same, implies, or, and, code, hash, at as token-at}
 use Rattle.ground.specs.Choice.{choose}
-use Rattle.notation.specs.Walk.{Flag, refused, walk, operand, after, wants, within, known, seen}
+use Rattle.notation.specs.Walk.{Flag, refused, walk, operand, after, within, known, seen}
 use Rattle.notation.specs.Guard.{Guard, flag, truth, connectives}
 use Rattle.notation.specs.Grammar.{Level, found, number, past, closed, operand_of}
 use Rattle.notation.specs.Triplets.{literal, triplets, literal_ceiling}
@@ -41,7 +40,7 @@ use Rattle.notation.specs.declared.place.Step.TheVariants as step
 use Rattle.operands.specs.declared.Answer.{Answer}
 use Rattle.operands.specs.declared.Answer.TheVariants as answer
 use Rattle.notation.proofs.Coding.{known-number, flags-length, flags-entered, in-text-entered}
-use Rattle.notation.proofs.Placing.{nine, never_both}
+use Rattle.notation.proofs.Placing.{eight, never_both}
 
 -- no sign binds tighter than `&`
 pub no-tighter : (s : Sign) → binding s ≤ 0 → ⊥
@@ -106,7 +105,7 @@ pub record FlagsStored (n : ℕ) (p p₁ : List ℕ) : Type 0 where
   pub room : length p₁ ≡ place_room
 
 pub flags-stored : (n : ℕ) (p : List ℕ) → length p ≡ place_room → FlagsStored n p (set p 3 n)
-flags-stored n p l = nine (λ q. FlagsStored n q (set q 3 n)) (λ a b c d e f g h i. record { stands = refl; waits = refl; room = refl }) p l
+flags-stored n p l = eight (λ q. FlagsStored n q (set q 3 n)) (λ a b c d e f g h. record { stands = refl; waits = refl; room = refl }) p l
 
 pub flags-as : (p : List ℕ) → length p ≡ place_room → FlagsStored (get_or p 3 0) p p
 flags-as p l = record { stands = refl; waits = refl; room = l }
@@ -194,7 +193,7 @@ module _ (text : List ℕ) (at : At) (codes : List ℕ) (st : Standing text code
 
   -- the walk at a code
   code-walked : (d : ℕ) → walk operand d flags at.signs (ahead text at.token)
-      ≡ within (length (seen at.token.start name flags)) flag_ceiling (fault 7 at.token.start)
+      ≡ within (length (seen at.token.start name flags)) flag_ceiling 7 at.token.start
       (walk after d (seen at.token.start name flags) at.signs (past (ahead text at.token)))
   unfolding walk
   code-walked d = ap (walk operand d flags at.signs) ahead-is
@@ -264,17 +263,17 @@ module _ (text : List ℕ) (at : At) (codes : List ℕ) (st : Standing text code
 
     -- unless there are as many flags as there may be
     pub too_many : at.flags ≤ r → flag_ceiling ≤ at.flags → (d : ℕ) →
-        walk operand d (flags_in text codes at.flags) at.signs (ahead text at.token) ≡ refused (fault 7 at.token.start)
+        walk operand d (flags_in text codes at.flags) at.signs (ahead text at.token) ≡ refused 7 at.token.start
     unfolding within flags
     too_many h i d = code-walked d ∙ rw (longer h, lt-leb (at.flags + 1) flag_ceiling (omega arith))
 
 -- a 25th flag
 pub too-many-says : {text p codes p' : List ℕ} {r : Answer} →
-    ((d : ℕ) → walk operand d (flags_in text codes (get_or p 3 0)) (get_or p 4 0) (ahead text (token_in p)) ≡ refused (fault 7 (get_or p 1 0))) →
-    RefusedSays (fault 7 (get_or p 1 0)) p r p' → AtomSays text p codes r p' codes
+    ((d : ℕ) → walk operand d (flags_in text codes (get_or p 3 0)) (get_or p 4 0) (ahead text (token_in p)) ≡ refused 7 (get_or p 1 0)) →
+    RefusedSays 7 p r p' → AtomSays text p codes r p' codes
 too-many-says {text} {p} {codes} {p'} {r} h c = record {
   found = λ l e. never-answer l r e c.refused;
-  refused = λ e d. h d ∙ ap refused (sym c.refusal);
+  refused = λ e d. h d ∙ ap (λ (n : ℕ). refused n (get_or p 1 0)) (sym c.number) ∙ ap (refused (get_or p' 6 0)) (sym c.start);
   kept = c.kept;
 }
 
@@ -303,7 +302,7 @@ closing-parsed kind.Closing text p e g u h = refl
 
 -- another token, no sign, cannot stand there
 pub no-closing : (k : Kind) (text : List ℕ) (p e d : ℕ) (u : List Flag) (m : ℕ) → joins k ≡ false → closes k ≡ false →
-    walk after (suc d) u m (ahead_as k text p e) ≡ refused (misplaced (wants after (suc d)) p)
+    walk after (suc d) u m (ahead_as k text p e) ≡ refused 5 p
 unfolding walk ahead_as
 no-closing kind.End text p e d u m i h = refl
 no-closing kind.Code text p e d u m i h = refl
@@ -336,12 +335,12 @@ module _ {text p p' : List ℕ} {r : Step} where
     kept = a.kept;
   }
 
-  pub closed-refused : joins (kind_of (get_or p 0 0)) ≡ false → closes (kind_of (get_or p 0 0)) ≡ false →
-      RefusedAt (misplaced (wants after 1) (get_or p 1 0)) p r p' → ClosedSays text p r p'
+  pub closed-refused : joins (kind_of (get_or p 0 0)) ≡ false → closes (kind_of (get_or p 0 0)) ≡ false → RefusedAt 5 (get_or p 1 0) p r p' → ClosedSays
+      text p r p'
   closed-refused j k c = record {
     taken = λ e. never_both r e c.answer;
     refused = λ e d u m.
-        no-closing (kind_of (get_or p 0 0)) text (get_or p 1 0) (get_or p 2 0) d u m j k ∙ ap refused (sym c.refusal);
+        no-closing (kind_of (get_or p 0 0)) text (get_or p 1 0) (get_or p 2 0) d u m j k ∙ ap (λ (f : Refusal). refused f.number f.place) (sym c.refusal);
     kept = record { waits = c.behind.waits; room = c.behind.room };
   }
 
@@ -356,7 +355,7 @@ opens kind.Opening = true
 opens kind.Closing = false
 
 pub no_operand : (k : Kind) (text : List ℕ) (p e d : ℕ) (u : List Flag) (m : ℕ) → opens k ≡ false →
-    walk operand d u m (ahead_as k text p e) ≡ refused (misplaced (wants operand d) p)
+    walk operand d u m (ahead_as k text p e) ≡ refused 5 p
 unfolding walk ahead_as
 no_operand kind.End text p e d u m h = refl
 no_operand kind.Code text p e d u m h = absurd (true≢false h)
@@ -367,9 +366,10 @@ no_operand kind.Opening text p e d u m h = absurd (true≢false h)
 no_operand kind.Closing text p e d u m h = refl
 
 -- refused at the token ahead
-pub refused_says : {f : Refusal} {p p' : List ℕ} {s : Step} → RefusedAt f p s p' → RefusedSays f p answer.Refused p'
+pub refused_says : {n : ℕ} {p p' : List ℕ} {s : Step} → RefusedAt n (get_or p 1 0) p s p' → RefusedSays n p answer.Refused p'
 refused_says c = record {
   refused = refl;
-  refusal = c.refusal;
+  number = ap (λ (f : Refusal). f.number) c.refusal;
+  start = ap (λ (f : Refusal). f.place) c.refusal;
   kept = record { waits = c.behind.waits; room = c.behind.room };
 }

@@ -10,7 +10,7 @@ use Rattle.notation.specs.Tokens.{Sign}
 use Rattle.notation.specs.Triplets.{literal_of, triplet_variable, triplet_of}
 use Rattle.notation.specs.clauses.Writing.{triplet_at}
 use Rattle.notation.specs.clauses.Place.{place_room}
-use Rattle.notation.proofs.Placing.{nine}
+use Rattle.notation.proofs.Placing.{eight}
 use Rattle.operands.specs.clauses.Steps.{At, Part, place, waiting, joined_part, JoinedSays, SetAside}
 
 -- one triplet more is counted
@@ -24,7 +24,7 @@ record Counted (p p' : List ℕ) : Type 0 where
 
 count-stored : (p : List ℕ) → length p ≡ place_room → Counted p (set p 5 (get_or p 5 0 + 1))
 count-stored p l =
-    nine (λ q. Counted q (set q 5 (get_or q 5 0 + 1))) (λ a b c d e f g h i. record { stands = refl; waits = refl; room = refl }) p l
+    eight (λ q. Counted q (set q 5 (get_or q 5 0 + 1))) (λ a b c d e f g h. record { stands = refl; waits = refl; room = refl }) p l
 
 -- two literals joined
 pub joined_says : (s : Sign) (l r x : ℕ) (p out out' : List ℕ) → length p ≡ place_room → x ≡ literal_of s (triplet_variable (get_or p 5 0 + 1)) →
@@ -46,7 +46,7 @@ pub record Waits (n : ℕ) (p p' : List ℕ) : Type 0 where
   pub room : length p' ≡ place_room
 
 pub waits-stored : (n : ℕ) (p : List ℕ) → length p ≡ place_room → Waits n p (set p 7 n)
-waits-stored n p l = nine (λ q. Waits n q (set q 7 n)) (λ a b c d e f g h i. record { stands = refl; waits = refl; room = refl }) p l
+waits-stored n p l = eight (λ q. Waits n q (set q 7 n)) (λ a b c d e f g h. record { stands = refl; waits = refl; room = refl }) p l
 
 -- joined where fewer wait
 pub joined-waits : {s : Sign} {l r n : ℕ} {p p₁ out : List ℕ} {x : ℕ} {p' out' : List ℕ} → Waits n p p₁ →

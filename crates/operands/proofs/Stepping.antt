@@ -8,15 +8,15 @@ use mathlib.Core.List.{List, ◌∷◌, []}
 use lib.ListN.{length, get_or, set}
 use lib.Dec.{eqb}
 use borrow.Author.Tests.{le-leb, lt-leb}
-use Rattle.notation.specs.Refusals.{fault}
 use Rattle.notation.specs.Ceilings.{connective_ceiling}
 use Rattle.notation.specs.Tokens.{Sign, same, implies, or, and, tokens_at}
 use Rattle.notation.specs.Walk.{Flag, refused, walk, operand, after, within}
 use Rattle.notation.specs.Grammar.{same_sign, is_sign, sign_next, past}
 use Rattle.notation.specs.clauses.Cut.{ahead_as, ahead, ends, sign_of}
 use Rattle.notation.specs.clauses.Place.{place_room, kind_of, token_in, RefusedAt, CutSays}
-use Rattle.notation.proofs.Placing.{nine, never_both, agree, agrees, kind-test}
+use Rattle.notation.proofs.Placing.{eight, never_both, agree, agrees, kind-test}
 use Rattle.operands.specs.clauses.Steps.{binding, sign_number, kind_is, joins, bangs, closes, TokenFits, AdvancedSays, PastSignSays}
+use Rattle.notation.specs.declared.refusal.Refusal.{Refusal}
 use Rattle.notation.specs.declared.place.Kind.{Kind}
 use Rattle.notation.specs.declared.place.Kind.TheVariants as kind
 use Rattle.notation.specs.declared.place.Step.{Step}
@@ -101,7 +101,7 @@ past-ahead kind.Closing text p e h = refl
 
 -- a sign past the ceiling is refused
 pub sign-refused : (k : Kind) (text : List ℕ) (p e d : ℕ) (u : List Flag) (m : ℕ) → joins k ≡ true → connective_ceiling ≤ m →
-    walk after d u m (ahead_as k text p e) ≡ refused (fault 8 p)
+    walk after d u m (ahead_as k text p e) ≡ refused 8 p
 unfolding walk within ahead_as
 sign-refused kind.End text p e d u m h l = absurd (true≢false (sym h))
 sign-refused kind.Code text p e d u m h l = absurd (true≢false (sym h))
@@ -157,8 +157,8 @@ pub record SignCounted (p p₁ : List ℕ) : Type 0 where
 
 pub sign-counted : (p : List ℕ) → length p ≡ place_room → SignCounted p (set p 4 (get_or p 4 0 + 1))
 sign-counted p l =
-    nine (λ q. SignCounted q (set q 4 (get_or q 4 0 + 1)))
-    (λ a b c d e f g h i. record { kind = refl; start = refl; next = refl; flags = refl; signs = refl; count = refl; waits = refl; room = refl }) p l
+    eight (λ q. SignCounted q (set q 4 (get_or q 4 0 + 1)))
+    (λ a b c d e f g h. record { kind = refl; start = refl; next = refl; flags = refl; signs = refl; count = refl; waits = refl; room = refl }) p l
 
 module _ (text p : List ℕ) (fits : TokenFits text (token_in p)) (j : joins (kind_of (get_or p 0 0)) ≡ true) where
   -- past a sign that is within the ceiling
@@ -188,13 +188,12 @@ module _ (text p : List ℕ) (fits : TokenFits text (token_in p)) (j : joins (ki
       }
 
   -- past the ceiling it is refused
-  pub past-sign-refused : {p' : List ℕ} {r : Step} → connective_ceiling ≤ get_or p 4 0 →
-      RefusedAt (fault 8 (get_or p 1 0)) p r p' → PastSignSays text p r p'
+  pub past-sign-refused : {p' : List ℕ} {r : Step} → connective_ceiling ≤ get_or p 4 0 → RefusedAt 8 (get_or p 1 0) p r p' → PastSignSays text p r p'
   past-sign-refused {p'} {r} l c = record {
     taken = λ e. never_both r e c.answer;
     refused = λ e d u.
         sign-refused (kind_of (get_or p 0 0)) text (get_or p 1 0) (get_or p 2 0) d u (get_or p 4 0) j l
-        ∙ ap refused (sym c.refusal);
+        ∙ ap (λ (f : Refusal). refused f.number f.place) (sym c.refusal);
     kept = record { waits = c.behind.waits; room = c.behind.room };
   }
 

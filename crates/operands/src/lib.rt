@@ -3,8 +3,6 @@
 ghost use Rattle.std.specs.Prelude.{◌≡◌, true, false, ◌+◌, ◌-◌, ◌*◌, ◌≤◌, ◌<◌, length, get_or};
 ghost use Rattle.notation.specs.clauses.Cut.{ends, sign_of};
 ghost use Rattle.notation.specs.Ceilings.{connective_ceiling, flag_ceiling};
-ghost use Rattle.notation.specs.Refusals.{fault, misplaced};
-ghost use Rattle.notation.specs.Walk.{operand, wants};
 ghost use Rattle.notation.specs.Tokens.{implies};
 ghost use Rattle.notation.specs.Triplets.{literal_ceiling};
 ghost use Rattle.notation.specs.clauses.Place.{place_room, kind_of, token_in};
@@ -13,13 +11,12 @@ ghost use Rattle.operands.specs.clauses.Steps.{PastTokenSays, AtomSays, TruthSay
 
 use notation::ceilings::{CODES_ROOM, CONNECTIVES, FLAGS, TRIPLETS_ROOM};
 use notation::place::{
-    COUNT, Connective, KIND, Kind, NEXT, PLACE, SEEN, SIGNS, START, Step, WAITING, misplace, refuse,
+    COUNT, Connective, KIND, Kind, NEXT, PLACE, SEEN, SIGNS, START, Step, WAITING, refuse,
 };
-use notation::refusal::{OPERAND, SIGN_OR_CLOSING};
 use notation::tokens::token_at;
 use notation::{codes, triplets};
 
-// What a level answers: the literal of the operand that it read. A refusal stands in the lent place.
+// What a level answers: the literal of the operand that it read. A refusal's number and place stand in the lent place.
 #[derive(Drop)]
 pub enum Answer {
     Found(u16),
@@ -29,20 +26,10 @@ pub enum Answer {
 // Refused with this number at the token ahead.
 pub fn refused(at: &mut [usize; PLACE], number: usize) -> Answer
     requires { length at.old ≡ place_room }
-    ensures { RefusedSays (fault number (get_or at.old 1 0)) at.old result at.new }
+    ensures { RefusedSays number at.old result at.new }
 {
     let start = at[START];
     refuse(at, number, start);
-    Answer::Refused
-}
-
-// Refused at the token ahead, where an operand was wanted.
-pub fn no_operand(at: &mut [usize; PLACE]) -> Answer
-    requires { length at.old ≡ place_room }
-    ensures { RefusedSays (misplaced (wants operand 0) (get_or at.old 1 0)) at.old result at.new }
-{
-    let start = at[START];
-    misplace(at, OPERAND, start);
     Answer::Refused
 }
 
@@ -223,5 +210,5 @@ pub fn closed(text: &[u8], at: &mut [usize; PLACE]) -> Step
     if closing_follows(at) {
         return advanced(text, at);
     }
-    misplace(at, SIGN_OR_CLOSING, start)
+    refuse(at, 5, start)
 }

@@ -7,11 +7,10 @@ use mathlib.Core.Bool.{Bool, true, false, true≢false}
 use mathlib.Core.List.{List, [], ◌∷◌, ◌++◌}
 use lib.ListN.{length, take, get_or, set}
 use borrow.Author.Tests.{le-leb, lt-leb}
-use Rattle.notation.specs.Refusals.{fault, misplaced}
 use Rattle.notation.specs.Ceilings.{text_ceiling, flag_ceiling, connective_ceiling}
 use Rattle.notation.specs.Tokens.{Tokens, tokens, tokens_at}
 use Rattle.ground.specs.Choice.{choose}
-use Rattle.notation.specs.Walk.{Flag, refused, accepted, walk, operand, after, wants}
+use Rattle.notation.specs.Walk.{Flag, refused, accepted, walk, operand, after}
 use Rattle.notation.specs.Guard.{Guard, connectives}
 use Rattle.notation.specs.Grammar.{tree, tree_of, left_level, same_of, implies_of, or_of, and_of}
 use Rattle.notation.specs.Triplets.{literal, triplets, numbers}
@@ -29,7 +28,7 @@ use Rattle.operands.specs.clauses.Steps.{joins, place, waiting}
 use Rattle.operands.specs.declared.Answer.{Answer}
 use Rattle.operands.specs.declared.Answer.TheVariants as answer
 use Rattle.levels.specs.clauses.Levels.{plain, operands_at, below_of, part, FoundPart, Rooms, Asks, Says}
-use Rattle.reading.specs.Service.{guard_with}
+use Rattle.reading.specs.Service.{refused_with, guard_with}
 use Rattle.reading.specs.clauses.Parsing.{ended_as, ParseSays}
 use Rattle.reading.specs.declared.parse.Parsed.{Parsed}
 use Rattle.reading.specs.declared.parse.Parsed.TheVariants as parsed
@@ -42,12 +41,12 @@ unfolding reading reading_from tree tree_from tokens tokens_at
 from_start text = rw (sub-zero)
 
 -- a text over the ceiling
-pub too_long : (text : List ℕ) (from : ℕ) (u : List Flag) → text_ceiling < length text - from → reading_from text from u ≡ refusal
-    (fault 1 (from + text_ceiling))
+pub too_long : (text : List ℕ) (from : ℕ) (u : List Flag) → text_ceiling < length text - from → reading_from text from u ≡ refusal 1
+    (from + text_ceiling)
 unfolding reading_from
 too_long text from u h = rw (lt-leb (length text - from) text_ceiling h)
 
-pub whole-too-long : (text : List ℕ) → text_ceiling < length text → reading text ≡ refusal (fault 1 text_ceiling)
+pub whole-too-long : (text : List ℕ) → text_ceiling < length text → reading text ≡ refusal 1 text_ceiling
 whole-too-long text h = sym (from_start text) ∙ too_long text 0 [] (rw sub-zero h)
 
 ends-accepted : (k : Kind) (text : List ℕ) (p e : ℕ) (u : List Flag) (m : ℕ) → ends k ≡ true → walk after 0 u m (ahead_as k text p e) ≡ accepted
@@ -62,7 +61,7 @@ ends-accepted kind.Opening text p e u m h = absurd (true≢false (sym h))
 ends-accepted kind.Closing text p e u m h = absurd (true≢false (sym h))
 
 not-ended : (k : Kind) (text : List ℕ) (p e : ℕ) (u : List Flag) (m : ℕ) → ends k ≡ false → joins k ≡ false → walk after 0 u m
-    (ahead_as k text p e) ≡ refused (misplaced (wants after 0) p)
+    (ahead_as k text p e) ≡ refused 5 p
 unfolding walk ahead_as
 not-ended kind.End text p e u m h i = absurd (true≢false h)
 not-ended kind.Code text p e u m h i = refl
@@ -81,7 +80,7 @@ pub record Before (from n : ℕ) (p : List ℕ) : Type 0 where
   pub waits : get_or p 7 0 ≡ 0
   pub room : length p ≡ place_room
 
-pub before : (from n : ℕ) → Before from n (set (set (0 ∷ 0 ∷ 0 ∷ 0 ∷ 0 ∷ 0 ∷ 0 ∷ 0 ∷ 0 ∷ []) 2 from) 3 n)
+pub before : (from n : ℕ) → Before from n (set (set (0 ∷ 0 ∷ 0 ∷ 0 ∷ 0 ∷ 0 ∷ 0 ∷ 0 ∷ []) 2 from) 3 n)
 before from n = record { next = refl; flags = refl; signs = refl; count = refl; waits = refl; room = refl }
 
 -- no code was seen before
@@ -101,9 +100,9 @@ parsed-whole text r codes codes' out' h = subst (λ (x : Reading). ParseSays tex
 
 module _ (text : List ℕ) (from : ℕ) (u₀ : List Flag) (h : length text - from ≤ text_ceiling) where
   -- where the walk refuses, so does reading
-  walk-refuses : (f : Refusal) → walk operand 0 u₀ 0 (tokens_at text from) ≡ refused f → reading_from text from u₀ ≡ refusal f
+  walk-refuses : (k p : ℕ) → walk operand 0 u₀ 0 (tokens_at text from) ≡ refused k p → reading_from text from u₀ ≡ refusal k p
   unfolding reading_from judged
-  walk-refuses f e = rw (le-leb (length text - from) text_ceiling h, e)
+  walk-refuses k p e = rw (le-leb (length text - from) text_ceiling h, e)
 
   -- where the walk accepts, the guard is the tree
   walk-accepts : (u : List Flag) (m : ℕ) → walk operand 0 u₀ 0 (tokens_at text from) ≡ accepted u m → reading_from text from u₀ ≡ guard
@@ -111,9 +110,10 @@ module _ (text : List ℕ) (from : ℕ) (u₀ : List Flag) (h : length text - fr
   unfolding reading_from judged
   walk-accepts u m e = rw (le-leb (length text - from) text_ceiling h, e)
 
-  says-refusal : (f : Refusal) → walk operand 0 u₀ 0 (tokens_at text from) ≡ refused f → (r : Parsed) → r ≡ parsed.Refused f →
-      (codes out : List ℕ) → ParseSays text (reading_from text from u₀) r codes out
-  says-refusal f e r q codes out = subst (λ (x : Reading). ParseSays text x r codes out) (sym (walk-refuses f e)) q
+  says-refusal : (k p : ℕ) → walk operand 0 u₀ 0 (tokens_at text from) ≡ refused k p → (r : Parsed) → r ≡ refused_with k p
+      → (codes out : List ℕ) →
+      ParseSays text (reading_from text from u₀) r codes out
+  says-refusal k p e r f codes out = subst (λ (x : Reading). ParseSays text x r codes out) (sym (walk-refuses k p e)) f
 
 module _ {text : List ℕ} {from n : ℕ} {p p₁ : List ℕ} {s : Step} (b : Before from n p) (c : CutSays text (get_or p 2 0) p s p₁) where
   -- what the loosest level asks
@@ -143,7 +143,7 @@ module _ {text : List ℕ} {from n : ℕ} {p p₁ : List ℕ} {s : Step} (b : Be
     pub faulty-first : s ≡ step.Refused → {r : Parsed} → r ≡ parsed.Refused (refusal_in p₁) → (codes' out' : List ℕ) →
         ParseSays text (reading_from text from (flags_in text codes n)) r codes' out'
     faulty-first e {r} q codes' out' =
-        says-refusal text from (flags_in text codes n) h (refusal_in p₁)
+        says-refusal text from (flags_in text codes n) h (get_or p₁ 6 0) (get_or p₁ 1 0)
         (ap (λ (k : ℕ). walk operand 0 (flags_in text codes n) 0 (tokens_at text k)) (sym b.next) ∙ c.refused e operand 0 (flags_in text codes n) 0)
         r q codes' out'
 
@@ -166,7 +166,7 @@ module _ {text : List ℕ} {from n : ℕ} {p p₁ : List ℕ} {s : Step} (b : Be
       -- a refusal by a level
       pub refused-first : a ≡ answer.Refused → {r : Parsed} → r ≡ parsed.Refused (refusal_in p₂) → ParseSays text
           (reading_from text from (flags_in text codes n)) r codes₂ out₂
-      refused-first f {r} q = says-refusal text from (flags_in text codes n) h (refusal_in p₂) (from_first ∙ v.refused f) r q codes₂ out₂
+      refused-first f {r} q = says-refusal text from (flags_in text codes n) h (get_or p₂ 6 0) (get_or p₂ 1 0) (from_first ∙ v.refused f) r q codes₂ out₂
 
       module _ {l : ℕ} (found : a ≡ answer.Found l) where
         f : FoundPart (plain (left_level words.same (below_of words.same (operands_at 0)))) 0 4 text (place p₁) codes out (part l p₂) codes₂ out₂
@@ -184,8 +184,7 @@ module _ {text : List ℕ} {from n : ℕ} {p p₁ : List ℕ} {s : Step} (b : Be
 
         -- the text ends after the guard, or does not
         decided : (x : Bool) → ends (kind_of (get_or p₂ 0 0)) ≡ x → (r : Parsed) →
-            r ≡ choose x (guard_with (get_or p₂ 3 0) (get_or p₂ 5 0) l) (parsed.Refused (misplaced (wants after 0) (get_or p₂ 1 0)))
-            → ParseSays text
+            r ≡ choose x (guard_with (get_or p₂ 3 0) (get_or p₂ 5 0) l) (refused_with 5 (get_or p₂ 1 0)) → ParseSays text
             (reading_from text from (flags_in text codes n)) r codes₂ out₂
         unfolding u f
         decided true x r q =
@@ -212,7 +211,7 @@ module _ {text : List ℕ} {from n : ℕ} {p p₁ : List ℕ} {s : Step} (b : Be
               room = v.rooms.triplets;
             }
         decided false x r q =
-            says-refusal text from (flags_in text codes n) h (misplaced (wants after 0) (get_or p₂ 1 0))
+            says-refusal text from (flags_in text codes n) h 5 (get_or p₂ 1 0)
             (from_first ∙ f.reads.walked
             ∙ not-ended (kind_of (get_or p₂ 0 0)) text (get_or p₂ 1 0) (get_or p₂ 2 0) u (get_or p₂ 4 0) x
             (stops-joins (kind_of (get_or p₂ 0 0)) text (get_or p₂ 1 0) (get_or p₂ 2 0) f.reads.stops)) r q codes₂ out₂

@@ -7,14 +7,12 @@ use native.Mathlib.Omega.{arith}
 use lib.ListN.{length}
 use lib.Dec.{leb, eqb}
 use borrow.Author.Tests.{leb-true}
-use Rattle.notation.specs.Refusals.{fault}
-use Rattle.notation.specs.declared.refusal.Refusal.{Refusal}
 use Rattle.notation.specs.Ceilings.{text_ceiling, code_ceiling, flag_ceiling, bracket_ceiling, connective_ceiling}
 use Rattle.notation.specs.Tokens.{Code, Token, Tokens, stray, long, code, hash, bang, sign, opening, closing, end, at, same, implies, or, and, code_byte}
 use Rattle.notation.specs.Tokens.{code_run, coded, hashed, marked, token_of, further, tokens_from, tokens}
 use Rattle.ground.specs.Choice.{choose}
-use Rattle.notation.specs.Walk.{Flag, known, seen, Wanted, operand, after, wants, Outcome, refused, accepted, within, walk}
-use Rattle.reading.specs.clauses.Parsing.{last_refusal, last_wanted}
+use Rattle.notation.specs.Walk.{Flag, known, seen, Wanted, operand, after, Outcome, refused, accepted, within, walk}
+use Rattle.reading.specs.clauses.Parsing.{last_refusal}
 
 -- what holds of two things holds of the one that is chosen
 pub choose-has : {A : Type 0} (P : A → Type 0) (b : Bool) (x y : A) → (b ≡ true → P x) → (b ≡ false → P y) → P (choose b x y)
@@ -101,14 +99,15 @@ abbrev pub FlagsFit : List Flag → Type 0
 FlagsFit [] = Unit {0}
 FlagsFit (f ∷ u) = ((f.place ≤ text_ceiling) × (length f.name ≤ code_ceiling)) × FlagsFit u
 
--- a refusal has a number of the table, a place within the longest text, and a number of what may be wanted
+-- a refusal has a number of the table and a place within the longest text
 abbrev pub OutcomeFits : Outcome → Type 0
-OutcomeFits (refused f) = (f.number ≤ last_refusal) × (f.place ≤ text_ceiling) × (f.wanted ≤ last_wanted)
+OutcomeFits (refused k p) = (k ≤ last_refusal) × (p ≤ text_ceiling)
 OutcomeFits (accepted u m) = FlagsFit u
 
-within-fits : (k ceiling : ℕ) (f : Refusal) (rest : Outcome) → OutcomeFits (refused f) → OutcomeFits rest → OutcomeFits (within k ceiling f rest)
+within-fits : (k ceiling number p : ℕ) (rest : Outcome) → number ≤ last_refusal → p ≤ text_ceiling → OutcomeFits rest → OutcomeFits
+    (within k ceiling number p rest)
 unfolding within
-within-fits k ceiling f rest h r = choose-has (λ (o : Outcome). OutcomeFits o) (leb k ceiling) rest (refused f) (λ e. r) (λ e. h)
+within-fits k ceiling number p rest n h f = choose-has (λ (o : Outcome). OutcomeFits o) (leb k ceiling) rest (refused number p) (λ e. f) (λ e. (n, h))
 
 append-fits : (u : List Flag) (f : Flag) → FlagsFit u → f.place ≤ text_ceiling → length f.name ≤ code_ceiling → FlagsFit (u ++ (f ∷ []))
 append-fits [] f x p c = ((p, c), tt)
@@ -120,35 +119,31 @@ seen-fits p c u h l f =
     choose-has (λ (v : List Flag). FlagsFit v) (known c u) u (u ++ (record { place = p; name = c } ∷ [])) (λ e. f)
     (λ e. append-fits u (record { place = p; name = c }) f h l)
 
-few-wanted : (d : ℕ) → wants after d ≤ last_wanted
-few-wanted zero = omega arith
-few-wanted (suc d) = omega arith
-
 walk-fits : (w : Wanted) (d : ℕ) (u : List Flag) (m : ℕ) (ts : Tokens) → TokensFit ts → FlagsFit u → OutcomeFits (walk w d u m ts)
 unfolding walk
-walk-fits operand d u m (end p) t f = (omega arith, t, omega arith)
-walk-fits operand d u m (at p stray ts) t f = (omega arith, t.0, omega arith)
-walk-fits operand d u m (at p long ts) t f = (omega arith, t.0, omega arith)
+walk-fits operand d u m (end p) t f = (omega arith, t)
+walk-fits operand d u m (at p stray ts) t f = (omega arith, t.0)
+walk-fits operand d u m (at p long ts) t f = (omega arith, t.0)
 walk-fits operand d u m (at p (code c) ts) t f =
-    within-fits (length (seen p c u)) flag_ceiling (fault 7 p) (walk after d (seen p c u) m ts) (omega arith, t.0, omega arith)
+    within-fits (length (seen p c u)) flag_ceiling 7 p (walk after d (seen p c u) m ts) (omega arith) t.0
     (walk-fits after d (seen p c u) m ts t.2 (seen-fits p c u t.0 t.1 f))
 walk-fits operand d u m (at p (hash b) ts) t f = walk-fits after d u m ts t.2 f
 walk-fits operand d u m (at p bang ts) t f = walk-fits operand d u m ts t.2 f
-walk-fits operand d u m (at p (sign s) ts) t f = (omega arith, t.0, omega arith)
+walk-fits operand d u m (at p (sign s) ts) t f = (omega arith, t.0)
 walk-fits operand d u m (at p opening ts) t f =
-    within-fits (suc d) bracket_ceiling (fault 6 p) (walk operand (suc d) u m ts) (omega arith, t.0, omega arith) (walk-fits operand (suc d) u m ts t.2 f)
-walk-fits operand d u m (at p closing ts) t f = (omega arith, t.0, omega arith)
+    within-fits (suc d) bracket_ceiling 6 p (walk operand (suc d) u m ts) (omega arith) t.0 (walk-fits operand (suc d) u m ts t.2 f)
+walk-fits operand d u m (at p closing ts) t f = (omega arith, t.0)
 walk-fits after zero u m (end p) t f = f
-walk-fits after (suc d) u m (end p) t f = (omega arith, t, omega arith)
-walk-fits after d u m (at p stray ts) t f = (omega arith, t.0, omega arith)
-walk-fits after d u m (at p long ts) t f = (omega arith, t.0, omega arith)
-walk-fits after d u m (at p (code c) ts) t f = (omega arith, t.0, few-wanted d)
-walk-fits after d u m (at p (hash b) ts) t f = (omega arith, t.0, few-wanted d)
-walk-fits after d u m (at p bang ts) t f = (omega arith, t.0, few-wanted d)
+walk-fits after (suc d) u m (end p) t f = (omega arith, t)
+walk-fits after d u m (at p stray ts) t f = (omega arith, t.0)
+walk-fits after d u m (at p long ts) t f = (omega arith, t.0)
+walk-fits after d u m (at p (code c) ts) t f = (omega arith, t.0)
+walk-fits after d u m (at p (hash b) ts) t f = (omega arith, t.0)
+walk-fits after d u m (at p bang ts) t f = (omega arith, t.0)
 walk-fits after d u m (at p (sign s) ts) t f =
-    within-fits (suc m) connective_ceiling (fault 8 p) (walk operand d u (suc m) ts) (omega arith, t.0, omega arith) (walk-fits operand d u (suc m) ts t.2 f)
-walk-fits after d u m (at p opening ts) t f = (omega arith, t.0, few-wanted d)
-walk-fits after zero u m (at p closing ts) t f = (omega arith, t.0, omega arith)
+    within-fits (suc m) connective_ceiling 8 p (walk operand d u (suc m) ts) (omega arith) t.0 (walk-fits operand d u (suc m) ts t.2 f)
+walk-fits after d u m (at p opening ts) t f = (omega arith, t.0)
+walk-fits after zero u m (at p closing ts) t f = (omega arith, t.0)
 walk-fits after (suc d) u m (at p closing ts) t f = walk-fits after d u m ts t.2 f
 
 -- a whole text within its ceiling

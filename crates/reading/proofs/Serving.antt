@@ -9,7 +9,6 @@ use lib.ListN.{length, take, drop, set, get_or, length-drop}
 use lib.Seq.{take-suc, drop-cons, set_at, append_snoc, length-take-le}
 use lib.Dec.{leb}
 use borrow.Author.Tests.{le-leb, lt-leb, lt-ltb, leb-true, leb-false}
-use Rattle.notation.specs.Refusals.{fault}
 use Rattle.notation.specs.Ceilings.{connective_ceiling}
 use Rattle.ground.specs.Choice.{choose}
 use Rattle.notation.specs.Walk.{Flag}
@@ -18,7 +17,7 @@ use Rattle.notation.specs.Triplets.{literal}
 use Rattle.notation.specs.Reading.{Reading, refusal, guard, reading}
 use Rattle.notation.specs.clauses.Cut.{part}
 use Rattle.notation.specs.clauses.Codes.{start_of, end_of, flag_at, flags_in, InText}
-use Rattle.reading.specs.Service.{guard_with, read_answer, room_after, ReadSays, name_in, name_answer, part_of}
+use Rattle.reading.specs.Service.{refused_with, guard_with, read_answer, room_after, ReadSays, unnamed, name_in, name_answer, part_of}
 use Rattle.reading.specs.clauses.Parsing.{GuardRead, ParseSays, Spans, named_in}
 use Rattle.notation.specs.declared.refusal.Refusal.{Refusal}
 use Rattle.reading.specs.declared.parse.Guard as counted
@@ -39,7 +38,7 @@ pub record Found (text : List ℕ) (R : Reading) (x : counted.Guard) (codes out 
 -- where parse answers a guard, the text says one, and the tables hold it
 pub guard-found : (text : List ℕ) (R : Reading) (r : Parsed) (codes out : List ℕ) → ParseSays text R r codes out → (x : counted.Guard) → r
     ≡ parsed.Guard x → Found text R x codes out
-guard-found text (refusal f) r codes out s x e = let z : ◌≡◌ {A = ℕ} 0 1 = cc in absurd (omega arith)
+guard-found text (refusal k p) r codes out s x e = let z : ◌≡◌ {A = ℕ} 0 1 = cc in absurd (omega arith)
 guard-found text (guard g u) r codes out s x e =
     record {
       tree = g;
@@ -51,11 +50,11 @@ guard-found text (guard g u) r codes out s x e =
 
 -- where parse refuses, so does the text
 pub refusal-found : (text : List ℕ) (R : Reading) (r : Parsed) (codes out : List ℕ) → ParseSays text R r codes out → (f : Refusal) → r
-    ≡ parsed.Refused f → R ≡ refusal f
-refusal-found text (refusal h) r codes out s f e =
-    let a : r ≡ parsed.Refused h = s in
-    let b : h ≡ f = cc in
-    ap refusal b
+    ≡ parsed.Refused f → R ≡ refusal f.number f.place
+refusal-found text (refusal k p) r codes out s f e =
+    let a : r ≡ refused_with k p = s in
+    let b : f ≡ record { number = k; place = p } = cc in
+    rw b
 refusal-found text (guard g u) r codes out s f e =
     let a : r ≡ guard_with (length u) (connectives g) (literal 0 g) = s.answer in
     let z : ◌≡◌ {A = ℕ} 0 1 = cc in absurd (omega arith)
@@ -71,7 +70,7 @@ copy_more from to i f t =
     ∙ ap (λ (l : List ℕ). l ++ drop (suc i) to) (sym (take-suc from i 0 f))
     ∙ rw add-one
 
-pub read-refused : (text room : List ℕ) (r : Parsed) (f : Refusal) → r ≡ parsed.Refused f → reading text ≡ refusal f
+pub read-refused : (text room : List ℕ) (r : Parsed) (f : Refusal) → r ≡ parsed.Refused f → reading text ≡ refusal f.number f.place
     → ReadSays text room r room
 unfolding read_answer room_after
 read-refused text room r f e h = record { answer = rw (e, h); left = rw h }
@@ -84,11 +83,11 @@ module _ (text room : List ℕ) (x : counted.Guard) (codes out : List ℕ) (f : 
   pub length-few : x.count ≤ connective_ceiling
   length-few = rw count-is f.read.short
 
-  pub read_small : length room < 3 * x.count → (k : Refusal) → k ≡ fault 10 0 → ReadSays text room (parsed.Refused k) room
+  pub read_small : length room < 3 * x.count → ReadSays text room (refused_with 10 0) room
   unfolding read_answer room_after
-  read_small h k q =
+  read_small h =
       let l : leb (3 * connectives f.tree) (length room) ≡ false = lt-leb (3 * connectives f.tree) (length room) (rw count-is at h) in
-      record { answer = rw (f.says, l, q); left = rw (f.says, l) }
+      record { answer = rw (f.says, l); left = rw (f.says, l) }
 
   pub read_fits : 3 * x.count ≤ length room → (after : List ℕ) → after ≡ take (3 * x.count) out ++ drop (3 * x.count) room → ReadSays text room
       (parsed.Guard x) after
@@ -107,12 +106,12 @@ spans text x codes out f =
     rw k (record { room = f.read.in_text.room; starts = f.read.in_text.starts })
 
 -- no flag has the number 0, or one over their number
-name-zero : (u : List Flag) → name_in u 0 ≡ named.Refused (fault 11 0)
+name-zero : (u : List Flag) → name_in u 0 ≡ unnamed 11 0
 unfolding name_in
 name-zero [] = refl
 name-zero (f ∷ u) = refl
 
-name-over : (u : List Flag) (i : ℕ) → length u < i → name_in u i ≡ named.Refused (fault 11 0)
+name-over : (u : List Flag) (i : ℕ) → length u < i → name_in u i ≡ unnamed 11 0
 unfolding name_in
 name-over [] i h = refl
 name-over (f ∷ u) zero h = refl
@@ -138,7 +137,7 @@ name-same text codes k (suc j) t =
     here : Named
     here = named.Part (start_of codes j) (end_of codes j - start_of codes j)
 
-    by-test : (b : Bool) → leb (suc j) k ≡ b → choose b here (named.Refused (fault 11 0)) ≡ name_in (flags_in text codes k) (suc j)
+    by-test : (b : Bool) → leb (suc j) k ≡ b → choose b here (unnamed 11 0) ≡ name_in (flags_in text codes k) (suc j)
     by-test true e =
         let h : j < k = leb-true (suc j) k e in
         let r = flags-split text codes j k h in
@@ -150,7 +149,7 @@ name-same text codes k (suc j) t =
         ∙ ap (named.Part (start_of codes j)) l)
     by-test false e = sym (name-over (flags_in text codes k) (suc j) (rw (flags-length text codes k) (leb-false (suc j) k e)))
 
-pub name-refused : (text : List ℕ) (i : ℕ) (f : Refusal) → reading text ≡ refusal f → named.Refused f ≡ name_answer
+pub name-refused : (text : List ℕ) (i : ℕ) (f : Refusal) → reading text ≡ refusal f.number f.place → named.Refused f ≡ name_answer
     (reading text) i
 unfolding name_answer
 name-refused text i f e = rw e

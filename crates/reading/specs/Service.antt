@@ -1,7 +1,6 @@
 -- What read and name answer, and what the room then holds.
 use Rattle.std.specs.Prelude.{ℕ, zero, suc, ◌+◌, ◌*◌, ◌≡◌, List, [], ◌∷◌, ◌++◌, length, take, drop, leb}
 use Rattle.ground.specs.Choice.{choose}
-use Rattle.notation.specs.Refusals.{fault}
 use Rattle.notation.specs.Walk.{Flag}
 use Rattle.notation.specs.Guard.{Guard, connectives}
 use Rattle.notation.specs.Triplets.{literal, triplets, numbers}
@@ -11,18 +10,22 @@ use Rattle.reading.specs.declared.parse.Parsed.TheVariants as parsed
 use Rattle.reading.specs.declared.name.Named.{Named}
 use Rattle.reading.specs.declared.name.Named.TheVariants as named
 
+-- the refusal with this number at this place
+abbrev pub refused_with : ℕ → ℕ → Parsed
+refused_with k p = parsed.Refused (record { number = k; place = p })
+
 -- a guard with n flags, c triplets and this root literal
 abbrev pub guard_with : ℕ → ℕ → ℕ → Parsed
 guard_with n c r = parsed.Guard (record { flags = n; count = c; root = r })
 
 -- read needs three numbers a triplet: it answers the guard, or refusal 10 where the room is too small
 unfoldable pub read_answer : Reading → ℕ → Parsed
-read_answer (refusal f) room = parsed.Refused f
-read_answer (guard g u) room = choose (leb (3 * connectives g) room) (guard_with (length u) (connectives g) (literal 0 g)) (parsed.Refused (fault 10 0))
+read_answer (refusal k p) room = refused_with k p
+read_answer (guard g u) room = choose (leb (3 * connectives g) room) (guard_with (length u) (connectives g) (literal 0 g)) (refused_with 10 0)
 
 -- the room afterwards: kind, y, z of each triplet from its start, the rest unchanged; a refusal changes nothing
 unfoldable pub room_after : Reading → List ℕ → List ℕ
-room_after (refusal f) room = room
+room_after (refusal k p) room = room
 room_after (guard g u) room = choose (leb (3 * connectives g) (length room)) (numbers (triplets 0 g) ++ drop (3 * connectives g) room) room
 
 -- read's statement: the answer r, and the room afterwards
@@ -30,16 +33,20 @@ pub record ReadSays (text room : List ℕ) (r : Parsed) (after : List ℕ) : Typ
   pub answer : r ≡ read_answer (reading text) (length room)
   pub left : after ≡ room_after (reading text) room
 
+-- name's refusal with this number at this place
+abbrev pub unnamed : ℕ → ℕ → Named
+unnamed k p = named.Refused (record { number = k; place = p })
+
 -- the part of the text where flag i of the list first stands, i counted from 1; a number that no flag has is refused 11
 unfoldable pub name_in : List Flag → ℕ → Named
-name_in [] i = named.Refused (fault 11 0)
-name_in (f ∷ u) zero = named.Refused (fault 11 0)
+name_in [] i = unnamed 11 0
+name_in (f ∷ u) zero = unnamed 11 0
 name_in (f ∷ u) (suc zero) = named.Part f.place (length f.name)
 name_in (f ∷ u) (suc (suc i)) = name_in u (suc i)
 
 -- what name answers
 unfoldable pub name_answer : Reading → ℕ → Named
-name_answer (refusal f) i = named.Refused f
+name_answer (refusal k p) i = unnamed k p
 name_answer (guard g u) i = name_in u i
 
 -- the bytes of a part of the text; a refusal hands back none

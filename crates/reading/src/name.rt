@@ -6,7 +6,7 @@ ghost use Rattle.reading.specs.clauses.Parsing.{Spans, named_in};
 
 use crate::parse::{Parsed, parse};
 use notation::ceilings::{CODES_ROOM, TRIPLETS_ROOM};
-use notation::refusal::{Refusal, fault};
+use notation::refusal::Refusal;
 
 // The part of a text that is a flag's code, by its first byte and length.
 #[derive(Drop)]
@@ -21,10 +21,16 @@ fn named_at(codes: &[usize], flags: usize, i: u64) -> Named
     ensures { result ≡ named_in codes.now flags i }
 {
     if i < 1 {
-        return Named::Refused(fault(11, 0));
+        return Named::Refused(Refusal {
+            number: 11,
+            place: 0,
+        });
     }
     if (flags as u64) < i {
-        return Named::Refused(fault(11, 0));
+        return Named::Refused(Refusal {
+            number: 11,
+            place: 0,
+        });
     }
     let place = (i - 1) as usize;
     let start = codes[2 * place];

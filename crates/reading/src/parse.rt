@@ -10,8 +10,8 @@ ghost use Rattle.reading.specs.clauses.Parsing.{ParseSays, ended_as};
 
 use levels::same;
 use notation::ceilings::{CODES_ROOM, CONNECTIVES, TEXT, TRIPLETS_ROOM};
-use notation::place::{COUNT, KIND, Kind, NEXT, NUMBER, PLACE, SEEN, START, Step, WANTED, kind_of};
-use notation::refusal::{Refusal, SIGN_OR_END, fault, misplaced, refusal_of};
+use notation::place::{COUNT, KIND, Kind, NEXT, NUMBER, PLACE, SEEN, START, Step, kind_of};
+use notation::refusal::Refusal;
 use notation::tokens::token_at;
 use operands::Answer;
 
@@ -33,7 +33,10 @@ pub enum Parsed {
 fn unread(at: &[usize; PLACE]) -> Parsed
     ensures { result ≡ Parsed.Refused (refusal_in at.now) }
 {
-    Parsed::Refused(refusal_of(at[NUMBER], at[START], at[WANTED]))
+    Parsed::Refused(Refusal {
+        number: at[NUMBER],
+        place: at[START],
+    })
 }
 
 fn is_end(kind: Kind) -> bool
@@ -62,7 +65,10 @@ fn ended(at: &[usize; PLACE], root: u16) -> Parsed
             root,
         });
     }
-    Parsed::Refused(misplaced(SIGN_OR_END, at[START]))
+    Parsed::Refused(Refusal {
+        number: 5,
+        place: at[START],
+    })
 }
 
 // The guard that stands from a place to the end of a text, or its refusal: the first `flags` codes of the table have been seen before. A
@@ -82,7 +88,10 @@ pub fn parse_from(
         codes.new out.new }
 {
     if TEXT < text.len() - from {
-        return Parsed::Refused(fault(1, from + TEXT));
+        return Parsed::Refused(Refusal {
+            number: 1,
+            place: from + TEXT,
+        });
     }
     let mut at = [0usize; PLACE];
     at[NEXT] = from;

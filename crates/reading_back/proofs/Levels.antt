@@ -15,7 +15,7 @@ use Rattle.notation.specs.Grammar.{Level, left_level, right_level, to_the_right}
 use Rattle.operands.specs.clauses.Steps.{binding}
 use Rattle.levels.specs.clauses.Levels.{plain, Reads}
 use Rattle.levels.proofs.Leveling.{Chain, chain_first, chain_more, chain-done, right-one, right-two}
-use Rattle.notation.proofs.Written.{connectives-joined}
+use Rattle.levels.proofs.Written.{connectives-joined}
 use Rattle.reading_back.specs.Written.{sign_byte, Stands, met, order, place_in, renamed, written, Placed, WithinCeilings}
 use Rattle.reading_back.proofs.Codes.{Matches, Begins, begins-earlier}
 use Rattle.reading_back.proofs.Cutting.{Parted, Stops, sign-parted, sign-stops, sign-next, sign-past}

@@ -13,7 +13,7 @@ use Rattle.notation.specs.Triplets.{Triplet, negation, literal, triplets}
 use Rattle.truth.specs.Value.{value}
 use Rattle.ground.proofs.Cases.{lt-or-ge, parity}
 use Rattle.saturation.specs.Saturation.{taken, Flags}
-use Rattle.notation.specs.clauses.Shape.{Proper}
+use Rattle.truth.specs.clauses.Written.{Proper}
 use Rattle.saturation.specs.Answer.{flag_as, flags_as, Refuted, Trial, Answer}
 use Rattle.saturation.proofs.Depth.{raised}
 use Rattle.saturation.proofs.States.{first_of, first-all, first-half}

@@ -13,7 +13,7 @@ use Rattle.relation.specs.Relation.{Rel, IsRelation}
 use Rattle.truth.specs.Value.{value}
 use Rattle.ground.proofs.Cases.{parity}
 use Rattle.saturation.specs.Saturation.{Stable, Flags}
-use Rattle.notation.specs.clauses.Shape.{Proper}
+use Rattle.truth.specs.clauses.Written.{Proper}
 use Rattle.saturation.specs.Answer.{flag_as, flags_as, Refuted, Trial, Answer}
 use Rattle.saturation.proofs.Taking.{HoldsAll, taken-above, taking-above, taking-holds}
 use Rattle.saturation.proofs.Depth.{stable-rest}

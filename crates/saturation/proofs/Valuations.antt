@@ -14,7 +14,7 @@ use Rattle.truth.proofs.Literals.{literal-even}
 use Rattle.truth.proofs.Computing.{valued}
 use Rattle.truth.proofs.Root.{root-value}
 use Rattle.notation.proofs.EachTriplet.{at_each, triplet_at}
-use Rattle.notation.specs.clauses.Shape.{Proper}
+use Rattle.truth.specs.clauses.Written.{Proper}
 use Rattle.saturation.proofs.Truth.{Makes, Satisfying}
 
 -- the values of all variables in the state s

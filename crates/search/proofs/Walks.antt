@@ -4,7 +4,7 @@ use mathlib.Core.Path.{◌≡◌, refl, sym, ap, ◌∙◌}
 use mathlib.Core.Bool.{Bool, true, false}
 use mathlib.Core.List.{List, ◌++◌}
 use native.Mathlib.Omega.{arith}
-use native.Mathlib.Nat.{pow-suc, mul_comm, mul_assoc, suc-mul, zero-mod, mul-le-mul_right, le_trans}
+use native.Mathlib.Nat.{pow-suc, mul_comm, mul_assoc, suc-mul, zero-mod, mul-le-mul_right}
 use native.Mathlib.Numerals.{add-one}
 use lib.ListN.{length}
 use lib.Pow.{low, high, pow_pos, pow-add, pow_mono, shl_exact}
@@ -161,14 +161,9 @@ shifted m h = shl_exact {a = 1} 1 m word_bits (omega arith) (omega arith) ∙ on
     one-times : (a : ℕ) → 1 * a ≡ a
     one-times a = omega arith
 
-pub rows-again : (count low width : ℕ) (rows rows' : List ℕ) → Rows count low width rows → length rows' ≡ length rows
-    → FlagRows low width rows' → Rows count low width rows'
-rows-again count low width rows rows' r e f = record { enough = r.enough; long = rw e r.long; right = f }
-
--- rows for many triplets are rows for fewer
-pub rows-fewer : (count most low width : ℕ) (rows : List ℕ) → count ≤ most → Rows most low width rows → Rows count low width rows
-rows-fewer count most low width rows h r =
-    record { enough = r.enough; long = le_trans (mul-le-mul_right width (omega arith)) r.long; right = r.right }
+pub rows-again : (low width : ℕ) (rows rows' : List ℕ) → Rows low width rows → length rows' ≡ length rows → FlagRows low width rows'
+    → Rows low width rows'
+rows-again low width rows rows' r e f = record { enough = r.enough; long = rw e r.long; right = f }
 
 -- what counts from the start on, in all states, is what is false from the start on
 from_start : (v : ℕ → Bool) (start n : ℕ) → start ≤ n → false_from (since start v) 0 n ≡ false_from v start (n - start)
@@ -189,9 +184,10 @@ stretch-all n width h b =
     record { aligned = zero-mod (2 ^ n); small = omega (arith, pow_mono {i = n} {j = flag_ceiling} h) }
 
 -- rows that hold the states of so many flags
-pub rows_all : (count low most width : ℕ) (rows after : List ℕ) → low ≤ most → 2 ^ most ≤ word_bits * width
-    → triplet_variable (suc count) * width ≤ length rows → FlagsMade low width rows after → Rows count low width after
-rows_all count low most width rows after h b l f =
+pub rows_all : (low most width : ℕ) (rows after : List ℕ) → low ≤ most → 2 ^ most ≤ word_bits * width → triplet_variable (suc connective_ceiling) *
+    width ≤ length rows
+    → FlagsMade low width rows after → Rows low width after
+rows_all low most width rows after h b l f =
     record { enough = omega (arith, pow_mono {i = low} {j = most} h); long = rw f.long l; right = f.right }
 
 -- 2^more words hold the states of so many more flags than one word
@@ -199,17 +195,7 @@ pub words-hold : (more : ℕ) → 2 ^ (word_flags + more) ≤ word_bits * 2 ^ mo
 words-hold more = omega (arith, pow-add 2 word_flags more)
 
 -- where the rows of all variables fit, so do those of true and of the flags
-pub flags-fit : (count n width long : ℕ) → n ≤ flag_ceiling → triplet_variable (suc count) * width ≤ long → suc n * width ≤ long
-flags-fit count n width long h l =
-    let less : suc n ≤ triplet_variable (suc count) = omega arith in
+pub flags-fit : (n width long : ℕ) → n ≤ flag_ceiling → triplet_variable (suc connective_ceiling) * width ≤ long → suc n * width ≤ long
+flags-fit n width long h l =
+    let less : suc n ≤ triplet_variable (suc connective_ceiling) = omega arith in
     omega (arith, mul-le-mul_right width less)
-
--- as many rows of words as fit, where a row's words are made by a shift
-pub rows-shifted : (rows more long : ℕ) → more < word_bits → rows * 2 ^ more ≤ long → rows * (1 * 2 ^ more % 2 ^ word_bits) ≤ long
-rows-shifted rows more long h l = rw (shifted more h) l
-
--- where the words of all rows, their number made by a shift, are no more than a table has, the rows fit: they are few, and no bit is lost
-pub rows_fit : (rows count more table : ℕ) → rows ≡ triplet_variable (suc count) → count ≤ connective_ceiling → more ≤ widest
-    → rows * 2 ^ more % 2 ^ word_bits ≤ table → triplet_variable (suc count) * 2 ^ more ≤ table
-rows_fit rows count more table e h b l =
-    rw (← shl_exact {a = triplet_variable (suc count)} 9 more word_bits (omega arith) (omega arith), ← e) l

@@ -1,4 +1,4 @@
-// Finds the gaps of triplets: rows of words as wide as the flags need, in a table as large as the rows need, and then the walk.
+// Finds the gaps of triplets: rows of words as wide as the flags need, and then the walk.
 pub mod walk;
 
 ghost use Rattle.std.specs.Prelude.{suc, ◌+◌, ◌*◌, ◌^◌, ◌-◌, ◌≤◌, length};
@@ -8,11 +8,11 @@ ghost use Rattle.truth.specs.clauses.Computed.{root_value, Triplets};
 ghost use Rattle.gaps.specs.Gaps.{false_from};
 ghost use Rattle.gaps.specs.clauses.Rows.{Writes};
 ghost use Rattle.rows.specs.clauses.Rows.{word_flags};
-ghost use Rattle.search.specs.clauses.Walking.{widest, least_words, few_words, many_words};
+ghost use Rattle.search.specs.clauses.Walking.{widest};
 
 use crate::walk::{block, walk};
 use gaps::writing::Found;
-use notation::ceilings::{FLAGS, VARIABLES};
+use notation::ceilings::VARIABLES;
 use rows::{WORD_FLAGS, flag_rows};
 
 // Most flags whose states are evaluated at once, and the words of a row that hold them.
@@ -20,14 +20,10 @@ const MOST_FLAGS: usize = WORD_FLAGS + 5;
 
 const MOST_WORDS: usize = 32;
 
-// Words of four tables of rows, each some five times the one before, so that a guard fills no table much larger than its own rows.
-const LEAST_TABLE: usize = 64;
+// Words of the rows of all variables, at four and at most words to a row.
+const FOUR_TO_A_ROW: usize = 4 * VARIABLES;
 
-const SMALL_TABLE: usize = 320;
-
-const LARGE_TABLE: usize = 1792;
-
-const WHOLE_TABLE: usize = MOST_WORDS * VARIABLES;
+const MOST_TO_A_ROW: usize = MOST_WORDS * VARIABLES;
 
 // Both signs of each variable.
 const LITERALS: usize = 2 * VARIABLES;
@@ -47,7 +43,7 @@ fn at_once(
     out: &mut [u32],
 ) -> Found
     requires triplets { Triplets n xs.now count root × (n ≤ word_flags + more) × (start ≤ 2 ^ n) }
-    requires more_le_widest { (more ≤ widest) × (triplet_variable (suc count) * 2 ^ more ≤ length rows.old) }
+    requires more_le_widest { (more ≤ widest) × (triplet_variable (suc connective_ceiling) * 2 ^ more ≤ length rows.old) }
     ensures { Writes out.old 0 (false_from (root_value n xs.now count root) start (2 ^ n - start)) result out.new }
 {
     let width = 1 << more;
@@ -55,61 +51,25 @@ fn at_once(
     block(xs, count, root, n, rows, width, 0, start, 0, out)
 }
 
-// Few triplets and few flags.
-fn in_least(
-    xs: &[u16],
-    count: usize,
-    root: u16,
-    n: usize,
-    more: usize,
-    start: u64,
-    out: &mut [u32],
-) -> Found
-    requires triplets { Triplets n xs.now count root × (n ≤ word_flags + more) × (start ≤ 2 ^ n) }
-    requires more_le_widest { (more ≤ widest) × (triplet_variable (suc count) * 2 ^ more ≤ least_words) }
+// As many flags as a word holds: one word to a row.
+fn narrow(xs: &[u16], count: usize, root: u16, n: usize, start: u64, out: &mut [u32]) -> Found
+    requires { Triplets n xs.now count root × (n ≤ word_flags) × (start ≤ 2 ^ n) }
     ensures { Writes out.old 0 (false_from (root_value n xs.now count root) start (2 ^ n - start)) result out.new }
 {
-    let mut rows = [72623859790382856u64; LEAST_TABLE];
-    at_once(xs, count, root, n, more, &mut rows, start, out)
+    let mut rows = [72623859790382856u64; VARIABLES];
+    at_once(xs, count, root, n, 0, &mut rows, start, out)
 }
 
-// More of either.
-fn in_small(
-    xs: &[u16],
-    count: usize,
-    root: u16,
-    n: usize,
-    more: usize,
-    start: u64,
-    out: &mut [u32],
-) -> Found
-    requires triplets { Triplets n xs.now count root × (n ≤ word_flags + more) × (start ≤ 2 ^ n) }
-    requires more_le_widest { (more ≤ widest) × (triplet_variable (suc count) * 2 ^ more ≤ few_words) }
+// At most two flags more: four words to a row.
+fn middle(xs: &[u16], count: usize, root: u16, n: usize, start: u64, out: &mut [u32]) -> Found
+    requires { Triplets n xs.now count root × (n ≤ word_flags + 2) × (start ≤ 2 ^ n) }
     ensures { Writes out.old 0 (false_from (root_value n xs.now count root) start (2 ^ n - start)) result out.new }
 {
-    let mut rows = [72623859790382856u64; SMALL_TABLE];
-    at_once(xs, count, root, n, more, &mut rows, start, out)
+    let mut rows = [72623859790382856u64; FOUR_TO_A_ROW];
+    at_once(xs, count, root, n, 2, &mut rows, start, out)
 }
 
-// Many of either.
-fn in_large(
-    xs: &[u16],
-    count: usize,
-    root: u16,
-    n: usize,
-    more: usize,
-    start: u64,
-    out: &mut [u32],
-) -> Found
-    requires triplets { Triplets n xs.now count root × (n ≤ word_flags + more) × (start ≤ 2 ^ n) }
-    requires more_le_widest { (more ≤ widest) × (triplet_variable (suc count) * 2 ^ more ≤ many_words) }
-    ensures { Writes out.old 0 (false_from (root_value n xs.now count root) start (2 ^ n - start)) result out.new }
-{
-    let mut rows = [72623859790382856u64; LARGE_TABLE];
-    at_once(xs, count, root, n, more, &mut rows, start, out)
-}
-
-// The walk, with the last flags, `low` of them, evaluated at once in the widest rows.
+// More flags: 32 words to a row, so that the last flags, as many as these hold, need no walk.
 fn wide(
     xs: &[u16],
     count: usize,
@@ -122,39 +82,12 @@ fn wide(
     requires { Triplets n xs.now count root × (low ≤ word_flags + widest) × (low ≤ n) × (start ≤ 2 ^ n) }
     ensures { Writes out.old 0 (false_from (root_value n xs.now count root) start (2 ^ n - start)) result out.new }
 {
-    let mut rows = [72623859790382856u64; WHOLE_TABLE];
+    let mut rows = [72623859790382856u64; MOST_TO_A_ROW];
     let mut to = [258u16; LITERALS];
     flag_rows(&mut rows, low, MOST_WORDS);
     walk(
         xs, count, root, n, low, &mut rows, MOST_WORDS, &mut to, 0, start, 0, out,
     )
-}
-
-// All states at once, in the smallest table that holds the rows. The largest is the walk's, which then has no flag to fix.
-fn in_table(
-    xs: &[u16],
-    count: usize,
-    root: u16,
-    n: usize,
-    more: usize,
-    start: u64,
-    out: &mut [u32],
-) -> Found
-    requires triplets { Triplets n xs.now count root × (n ≤ word_flags + more) × (start ≤ 2 ^ n) }
-    requires more_le_widest { more ≤ widest }
-    ensures { Writes out.old 0 (false_from (root_value n xs.now count root) start (2 ^ n - start)) result out.new }
-{
-    let words = (FLAGS + 1 + count) << more;
-    if words <= LEAST_TABLE {
-        return in_least(xs, count, root, n, more, start, out);
-    }
-    if words <= SMALL_TABLE {
-        return in_small(xs, count, root, n, more, start, out);
-    }
-    if words <= LARGE_TABLE {
-        return in_large(xs, count, root, n, more, start, out);
-    }
-    wide(xs, count, root, n, n, start, out)
 }
 
 // Writes the states from `start` on in which the triplets are false at the root, as many as there is room for.
@@ -163,10 +96,13 @@ pub fn search(xs: &[u16], count: usize, root: u16, n: usize, start: u64, out: &m
     ensures { Writes out.old 0 (false_from (root_value n xs.now count root) start (2 ^ n - start)) result out.new }
 {
     if n <= WORD_FLAGS {
-        return in_table(xs, count, root, n, 0, start, out);
+        return narrow(xs, count, root, n, start, out);
+    }
+    if n <= WORD_FLAGS + 2 {
+        return middle(xs, count, root, n, start, out);
     }
     if n <= MOST_FLAGS {
-        return in_table(xs, count, root, n, n - WORD_FLAGS, start, out);
+        return wide(xs, count, root, n, n, start, out);
     }
     wide(xs, count, root, n, MOST_FLAGS, start, out)
 }

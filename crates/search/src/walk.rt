@@ -24,7 +24,7 @@ pub fn block(
     from: usize,
     out: &mut [u32],
 ) -> Found
-    requires { Triplets n xs.now count root × Rows count n width rows.old × Stretch n width base × (from ≤ length out.old) }
+    requires { Triplets n xs.now count root × Rows n width rows.old × Stretch n width base × (from ≤ length out.old) }
     ensures { Walked (root_value n xs.now count root) start base n n width from out.old result out.new rows.new }
 {
     evaluate(xs, count, n, rows, width);
@@ -48,8 +48,7 @@ fn side(
     from: usize,
     out: &mut [u32],
 ) -> Found
-    requires triplets { Triplets (suc n) xs.now count root × Rows connective_ceiling low width rows.old × Stretch n width base
-        × (from ≤ length out.old) }
+    requires triplets { Triplets (suc n) xs.now count root × Rows low width rows.old × Stretch n width base × (from ≤ length out.old) }
     requires low_le_n { (low ≤ n) × (2 * triplet_variable (suc connective_ceiling) ≤ length to.old)
         × ((s : ℕ) → base ≤ s → s < base + 2 ^ n → bit s n ≡ b) }
     ensures { Walked (root_value (suc n) xs.now count root) start base n low width from out.old result out.new
@@ -85,7 +84,7 @@ pub fn walk(
     from: usize,
     out: &mut [u32],
 ) -> Found
-    requires triplets { Triplets n xs.now count root × Rows connective_ceiling low width rows.old × Stretch n width base × (from ≤ length out.old) }
+    requires triplets { Triplets n xs.now count root × Rows low width rows.old × Stretch n width base × (from ≤ length out.old) }
     requires low_le_n { (low ≤ n) × (2 * triplet_variable (suc connective_ceiling) ≤ length to.old) }
     ensures { Walked (root_value n xs.now count root) start base n low width from out.old result out.new
         rows.new }

@@ -13,7 +13,7 @@ use Rattle.truth.specs.Value.{value}
 use Rattle.ground.specs.Bits.{bit}
 use Rattle.steps.specs.Table.{entry, follows, pattern}
 use Rattle.saturation.specs.Saturation.{Flags}
-use Rattle.notation.specs.clauses.Shape.{Proper}
+use Rattle.truth.specs.clauses.Written.{Proper}
 use Rattle.saturation.specs.Answer.{flag_as, flags_as, Refuted, Checked}
 use Rattle.notation.specs.clauses.Writing.{signed}
 use Rattle.starred.proofs.Sketches.{Binding, replaced, lead, sketched}

@@ -14,7 +14,7 @@ use Rattle.steps.specs.Step.{always, own_x, not-y, own-z}
 use Rattle.saturation.specs.Saturation.{taken, Saturated}
 use Rattle.saturation.proofs.Taking.{taken-above, above-taken}
 use Rattle.saturation.proofs.Fixed.{literal_for}
-use Rattle.notation.specs.clauses.Shape.{Proper}
+use Rattle.truth.specs.clauses.Written.{Proper}
 use Rattle.saturation.proofs.Verdicts.{tied-in-gaps}
 
 -- `!A>A`

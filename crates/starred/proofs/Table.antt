@@ -8,7 +8,6 @@ use lib.ListN.{length, drop, length-append, drop_of_length-le}
 use lib.Seq.{take_all, take-append_seam, get_or-append_seam}
 use lib.Dec.{leb, ltb}
 use borrow.Author.Tests.{le-leb, lt-leb}
-use Rattle.notation.specs.Refusals.{fault}
 use Rattle.notation.specs.Tokens.{same, implies, and, among, code_byte, code_run, coded, hashed, marked, token_of, further, tokens_from, tokens}
 use Rattle.notation.specs.Walk.{Flag, same_code, known, seen, within, walk}
 use Rattle.notation.specs.Guard.{Guard, flag, truth, joined, connectives}
@@ -98,7 +97,7 @@ module _ (text : List ℕ) (start : ℕ) (g : Guard) (u : List Flag) (says : rea
       }
 
   -- the start is no state
-  start-refused : ltb start (2 ^ length u) ≡ false → (out : List ℕ) → Lists text start out (listing.Refused (fault 9 0)) out
+  start-refused : ltb start (2 ^ length u) ≡ false → (out : List ℕ) → Lists text start out (listing.Refused (record { number = 9; place = 0 })) out
   unfolding listed filled
   start-refused state out = record { answers = rw (says, state); holds = rw (says, state) }
 

@@ -1,7 +1,6 @@
 -- The outline's starred examples, one table: each line speaks of a text, and of what the services answer for it.
 use Rattle.std.specs.Prelude.{ℕ, ◌*◌, ◌≤◌, ◌≡◌, List, [], ◌∷◌, ◌++◌, length, drop}
 use Prim.Native.String.{String}
-use Rattle.notation.specs.Refusals.{fault}
 use Rattle.notation.specs.Walk.{Flag}
 use Rattle.notation.specs.Guard.{Guard}
 use Rattle.notation.specs.Triplets.{Triplet, triplet_variable, triplets}
@@ -35,7 +34,7 @@ ListsFirst text start l next =
 -- from this start on, list refuses with this number at place 0, and leaves every slice alone
 abbrev pub ListRefuses : String → ℕ → ℕ → Type 0
 ListRefuses text start number =
-    (out : List ℕ) → Lists (bytes text) start out (listing.Refused (fault number 0)) out
+    (out : List ℕ) → Lists (bytes text) start out (listing.Refused (record { number = number; place = 0 })) out
 
 -- what check answers for the text at the depth
 abbrev pub Checks : String → ℕ → Verdict → Type 0

@@ -27,7 +27,6 @@ fn say_refusal(refusal: Refusal) {
     say(b" refused");
     say_number(refusal.number as u64);
     say_number(refusal.place as u64);
-    say_number(refusal.wanted as u64);
 }
 
 fn say_guard(guard: Guard) {

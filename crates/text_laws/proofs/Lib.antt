@@ -6,4 +6,3 @@ pub mod Flags
 pub mod Standing
 pub mod Naming
 pub mod Numbering
-pub mod Wanting

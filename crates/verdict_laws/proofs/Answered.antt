@@ -116,7 +116,7 @@ module _ (ts : List Triplet) (root k n : ℕ) where
 
 -- ---- of texts
 reading-answers : (x : Reading) (k : ℕ) → (r : Verdict) × ReadingSays x k r
-reading-answers (refusal f) k = (Refused f, refl)
+reading-answers (refusal number p) k = (Refused (record { number = number; place = p }), refl)
 reading-answers (guard g u) k =
     let o = outline-exists (triplets 0 g) (literal 0 g) k (length u) in
     (o.0, (outline-says (triplets 0 g) (literal 0 g) k (length u) o.0).0 o.1)

@@ -7,8 +7,6 @@ use mathlib.Core.Logic.{⊎_elim}
 use native.Mathlib.Omega.{arith}
 use native.Mathlib.Nat.{sub-zero}
 use lib.ListN.{length}
-use Rattle.notation.specs.Refusals.{fault}
-use Rattle.notation.specs.declared.refusal.Refusal.{Refusal}
 use Rattle.notation.specs.Ceilings.{text_ceiling}
 use Rattle.notation.specs.Walk.{Flag}
 use Rattle.notation.specs.Guard.{Guard}
@@ -18,7 +16,7 @@ use Rattle.notation.proofs.Accepted.{reading-accepted}
 use Rattle.truth.specs.Value.{value}
 use Rattle.gaps.specs.Gaps.{false_from, gaps_from}
 use Rattle.gaps.proofs.Ascending.{false-not, false-one}
-use Rattle.notation.specs.clauses.Shape.{Proper}
+use Rattle.truth.specs.clauses.Written.{Proper}
 use Rattle.saturation.specs.Answer.{Checked}
 use Rattle.verdict_laws.proofs.Guards.{checked-covered, checked-gap, checked-decided}
 use Rattle.guard_check.specs.Check.{depth_ceiling, ReadingSays, CheckSays}
@@ -41,17 +39,17 @@ first-listed v lo (suc k) s a b f h =
 
 module _ (text : List ℕ) (g : Guard) (u : List Flag) (says : reading text ≡ guard g u) (depth : ℕ) where
   proper : Proper (length u) g
-  proper = (reading-accepted text g u says).proper
+  proper = record { few = (reading-accepted text g u says).few; within = (reading-accepted text g u says).within }
 
   -- what is said of the text and is no refusal is said of its guard
-  on-guard : (r : Verdict) → CheckSays text depth r → ((f : Refusal) → r ≡ Refused f → ⊥) → Checked (length u) g
+  on-guard : (r : Verdict) → CheckSays text depth r → ((k p : ℕ) → r ≡ Refused (record { number = k; place = p }) → ⊥) → Checked (length u) g
       depth r
   on-guard r h n =
       ⊎_elim
-      (λ (a : text_ceiling < length text). absurd (n (fault 1 text_ceiling) (subst (λ (x : Reading). ReadingSays x depth r) (asks-long text depth a) h)))
+      (λ (a : text_ceiling < length text). absurd (n 1 text_ceiling (subst (λ (x : Reading). ReadingSays x depth r) (asks-long text depth a) h)))
       (λ (a : length text ≤ text_ceiling).
       ⊎_elim
-      (λ (b : depth_ceiling < depth). absurd (n (fault 2 0) (subst (λ (x : Reading). ReadingSays x depth r) (asks-deep text depth a b) h)))
+      (λ (b : depth_ceiling < depth). absurd (n 2 0 (subst (λ (x : Reading). ReadingSays x depth r) (asks-deep text depth a b) h)))
       (λ (b : depth ≤ depth_ceiling). subst (λ (x : Reading). ReadingSays x depth r) (asks-text text depth a b ∙ says) h)
       (lt-or-ge depth_ceiling depth))
       (lt-or-ge text_ceiling (length text))
@@ -60,14 +58,14 @@ module _ (text : List ℕ) (g : Guard) (u : List Flag) (says : reading text ≡ 
   pub covered-true : CheckSays text depth Covered → (s : ℕ) → value (length u) s g ≡ true
   covered-true h =
       checked-covered (length u) g proper depth (on-guard Covered h
-      (λ f (e : Covered ≡ Refused f). let z : ◌≡◌ {A = ℕ} 0 1 = cc in omega arith))
+      (λ k p (e : Covered ≡ Refused (record { number = k; place = p })). let z : ◌≡◌ {A = ℕ} 0 1 = cc in omega arith))
 
   -- a gap that is named is the first of the list from state 0, and so a state that makes the guard false
   pub gap-first : (s : ℕ) → CheckSays text depth (Gap s) → (l : List ℕ) × (gaps_from (length u) g 0 ≡ s ∷ l)
   unfolding gaps_from
   gap-first s h =
       let c = checked-gap (length u) g proper depth s (on-guard (Gap s) h
-      (λ f (e : Gap s ≡ Refused f). let z : ◌≡◌ {A = ℕ} 0 1 = cc in omega arith)) in
+      (λ k p (e : Gap s ≡ Refused (record { number = k; place = p })). let z : ◌≡◌ {A = ℕ} 0 1 = cc in omega arith)) in
       let below : s < 2 ^ length u = c.0 in
       first-listed (λ t. value (length u) t g) 0 (2 ^ length u - 0) s (omega arith) (rw sub-zero (omega arith)) c.1 (true_below s c.2)
     where
@@ -83,4 +81,4 @@ module _ (text : List ℕ) (g : Guard) (u : List Flag) (says : reading text ≡ 
   pub never-undecided : length u ≤ depth → CheckSays text depth Undecided → ⊥
   never-undecided a h =
       checked-decided (length u) g proper depth a (on-guard Undecided h
-      (λ f (e : Undecided ≡ Refused f). let z : ◌≡◌ {A = ℕ} 0 1 = cc in omega arith))
+      (λ k p (e : Undecided ≡ Refused (record { number = k; place = p })). let z : ◌≡◌ {A = ℕ} 0 1 = cc in omega arith))

@@ -6,7 +6,7 @@ use Rattle.notation.specs.Guard.{Guard}
 use Rattle.notation.specs.Triplets.{literal, triplets}
 use Rattle.truth.specs.Value.{value}
 use Rattle.saturation.specs.Saturation.{Flags}
-use Rattle.notation.specs.clauses.Shape.{Proper}
+use Rattle.truth.specs.clauses.Written.{Proper}
 use Rattle.saturation.specs.Answer.{Checked}
 use Rattle.saturation.specs.declared.verdict.Verdict.{Verdict}
 use Rattle.saturation.specs.declared.verdict.Verdict.TheVariants.{Covered, Gap, Undecided}

@@ -8,10 +8,8 @@ use Rattle.notation.specs.Ceilings.{text_ceiling}
 use Rattle.notation.specs.Reading.{Reading, refusal, reading}
 use Rattle.notation.specs.declared.refusal.Refusal.{Refusal}
 use Rattle.ground.proofs.Cases.{lt-or-ge}
-use Rattle.reading.specs.Service.{ReadSays, read_answer, room_after, name_answer}
+use Rattle.reading.specs.Service.{ReadSays, read_answer, room_after, refused_with, name_answer, unnamed}
 use Rattle.reading.specs.declared.parse.Parsed.{Parsed}
-use Rattle.reading.specs.declared.parse.Parsed.TheVariants as parsed
-use Rattle.reading.specs.declared.name.Named.TheVariants as named
 use Rattle.reading.proofs.Parsing.{whole-too-long}
 use Rattle.evaluate.proofs.Evaluated.{evaluates-refusal}
 use Rattle.list.specs.declared.Listing.TheVariants as listing
@@ -28,10 +26,10 @@ use Rattle.verdict_laws.specs.Together.{RefusedTogether}
 says-only : (text : List ℕ) (depth : ℕ) (v : Verdict) → CheckSays text depth v → (r : Verdict) → CheckSays text depth r ↔ (r ≡ v)
 says-only text depth v h r = (λ a. check-unique text depth r v a h, λ e. subst (λ (w : Verdict). CheckSays text depth w) (sym e) h)
 
-module _ (text : List ℕ) (f : Refusal) (says : reading text ≡ refusal f) where
+module _ (text : List ℕ) (f : Refusal) (says : reading text ≡ refusal f.number f.place) where
   check-long : text_ceiling < length text → (depth : ℕ) → CheckSays text depth (Refused f)
   check-long h depth =
-      let e : asked text depth ≡ refusal f = asks-long text depth h ∙ sym (whole-too-long text h) ∙ says in
+      let e : asked text depth ≡ refusal f.number f.place = asks-long text depth h ∙ sym (whole-too-long text h) ∙ says in
       subst (λ (x : Reading). ReadingSays x depth (Refused f)) (sym e) refl
 
   check-here : (depth : ℕ) → depth ≤ depth_ceiling → CheckSays text depth (Refused f)
@@ -39,12 +37,12 @@ module _ (text : List ℕ) (f : Refusal) (says : reading text ≡ refusal f) whe
       ⊎_elim (λ (h : text_ceiling < length text). check-long h depth) (λ (h : length text ≤ text_ceiling). refused-too text depth h d f says)
       (lt-or-ge text_ceiling (length text))
 
-  read-refused : (room : List ℕ) (r : Parsed) (after : List ℕ) → ReadSays text room r after → (r ≡ parsed.Refused f)
+  read-refused : (room : List ℕ) (r : Parsed) (after : List ℕ) → ReadSays text room r after → (r ≡ refused_with f.number f.place)
       × (after ≡ room)
   unfolding read_answer room_after
   read-refused room r after h = (rw says at h.answer, rw says at h.left)
 
-  name-refused : (i : ℕ) → name_answer (reading text) i ≡ named.Refused f
+  name-refused : (i : ℕ) → name_answer (reading text) i ≡ unnamed f.number f.place
   unfolding name_answer
   name-refused i = rw says
 

@@ -10,8 +10,6 @@ use lib.ListN.{length, get_or}
 use lib.Dec.{ltb}
 use lib.Seq.{take_all}
 use borrow.Author.Tests.{lt-ltb, le-leb, lt-leb}
-use Rattle.notation.specs.Refusals.{fault}
-use Rattle.notation.specs.declared.refusal.Refusal.{Refusal}
 use Rattle.notation.specs.Ceilings.{text_ceiling}
 use Rattle.notation.specs.Walk.{Flag}
 use Rattle.notation.specs.Guard.{Guard}
@@ -32,7 +30,7 @@ use Rattle.list.specs.Listed.{listed, filled, Lists, Among, Ascends}
 use Rattle.list.specs.declared.Listing.{Listing}
 use Rattle.list.specs.declared.Listing.TheVariants as listing
 use Rattle.list.proofs.Complete.{gaps-exact, gaps-ascend, placed-written, found-all-or-more}
-use Rattle.notation.specs.clauses.Shape.{Proper}
+use Rattle.truth.specs.clauses.Written.{Proper}
 use Rattle.verdict_laws.proofs.Guards.{checked-full, checked-full-gap}
 use Rattle.guard_check.specs.Check.{depth_ceiling, ReadingSays, CheckSays}
 use Rattle.saturation.specs.declared.verdict.Verdict.{Verdict}
@@ -42,25 +40,24 @@ use Rattle.verdict_laws.proofs.Demands.{covered-true, gap-first}
 use Rattle.verdict_laws.specs.Together.{IsRead, NoRefusal, GapTogether, CoveredTogether, NoneTogether, NextTogether}
 
 -- ---- a verdict that is no refusal is on a text that is read
-not-refused : (f : Refusal) (r : Verdict) → NoRefusal r → r ≡ Refused f → ⊥
-not-refused f Covered h e = let z : ◌≡◌ {A = ℕ} 0 1 = cc in omega arith
-not-refused f (Gap s) h e = let z : ◌≡◌ {A = ℕ} 0 1 = cc in omega arith
-not-refused f Undecided h e = let z : ◌≡◌ {A = ℕ} 0 1 = cc in omega arith
-not-refused f (Refused g) h e = h
+not-refused : (k p : ℕ) (r : Verdict) → NoRefusal r → r ≡ Refused (record { number = k; place = p }) → ⊥
+not-refused k p Covered h e = let z : ◌≡◌ {A = ℕ} 0 1 = cc in omega arith
+not-refused k p (Gap s) h e = let z : ◌≡◌ {A = ℕ} 0 1 = cc in omega arith
+not-refused k p Undecided h e = let z : ◌≡◌ {A = ℕ} 0 1 = cc in omega arith
+not-refused k p (Refused f) h e = h
 
 read-when : (text : List ℕ) (depth : ℕ) (r : Verdict) → NoRefusal r → (x : Reading) → reading text ≡ x → ReadingSays x depth r → IsRead text
-read-when text depth r n (refusal f) e h = absurd (not-refused f r n h)
+read-when text depth r n (refusal k p) e h = absurd (not-refused k p r n h)
 read-when text depth r n (guard g u) e h = record { tree = g; flags = u; says = e }
 
 -- the text of each verdict that is no refusal is read
 pub verdict-read : (text : List ℕ) (depth : ℕ) (r : Verdict) → NoRefusal r → CheckSays text depth r → IsRead text
 verdict-read text depth r n h =
     ⊎_elim
-    (λ (a : text_ceiling < length text). absurd (not-refused (fault 1 text_ceiling) r n
-    (subst (λ (x : Reading). ReadingSays x depth r) (asks-long text depth a) h)))
+    (λ (a : text_ceiling < length text). absurd (not-refused 1 text_ceiling r n (subst (λ (x : Reading). ReadingSays x depth r) (asks-long text depth a) h)))
     (λ (a : length text ≤ text_ceiling).
     ⊎_elim
-    (λ (b : depth_ceiling < depth). absurd (not-refused (fault 2 0) r n (subst (λ (x : Reading). ReadingSays x depth r) (asks-deep text depth a b) h)))
+    (λ (b : depth_ceiling < depth). absurd (not-refused 2 0 r n (subst (λ (x : Reading). ReadingSays x depth r) (asks-deep text depth a b) h)))
     (λ (b : depth ≤ depth_ceiling). read-when text depth r n (reading text) refl
     (subst (λ (x : Reading). ReadingSays x depth r) (asks-text text depth a b) h))
     (lt-or-ge depth_ceiling depth))
@@ -84,12 +81,12 @@ pub read_short : (text : List ℕ) (g : Guard) (u : List Flag) → reading text 
 read_short text g u e =
     ⊎_elim
     (λ (a : text_ceiling < length text).
-    let r : refusal (fault 1 text_ceiling) ≡ guard g u = sym (whole-too-long text a) ∙ e in let z : ◌≡◌ {A = ℕ} 0 1 = cc in absurd (omega arith))
+    let r : refusal 1 text_ceiling ≡ guard g u = sym (whole-too-long text a) ∙ e in let z : ◌≡◌ {A = ℕ} 0 1 = cc in absurd (omega arith))
     (λ (a : length text ≤ text_ceiling). a)
     (lt-or-ge text_ceiling (length text))
 
 proper : (text : List ℕ) (g : Guard) (u : List Flag) → reading text ≡ guard g u → Proper (length u) g
-proper text g u e = (reading-accepted text g u e).proper
+proper text g u e = record { few = (reading-accepted text g u e).few; within = (reading-accepted text g u e).within }
 
 -- ---- evaluate and list in a state of a guard
 module _ (text : List ℕ) (g : Guard) (u : List Flag) (says : reading text ≡ guard g u) where
@@ -206,7 +203,7 @@ module _ (text : List ℕ) (depth : ℕ) where
 -- ---- from list to check
 lists-when : (text : List ℕ) (start room : ℕ) (x : Reading) (f : Found) → reading text ≡ x → listing.Gaps f ≡ listed x start room → IsRead text
 unfolding listed
-lists-when text start room (refusal k) f e h = let z : ◌≡◌ {A = ℕ} 0 1 = cc in absurd (omega arith)
+lists-when text start room (refusal k p) f e h = let z : ◌≡◌ {A = ℕ} 0 1 = cc in absurd (omega arith)
 lists-when text start room (guard g u) f e h = record { tree = g; flags = u; says = e }
 
 -- a text whose gaps are listed is read

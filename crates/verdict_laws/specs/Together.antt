@@ -5,10 +5,8 @@ use Rattle.notation.specs.Walk.{Flag}
 use Rattle.notation.specs.Guard.{Guard}
 use Rattle.notation.specs.Reading.{guard, reading}
 use Rattle.notation.specs.declared.refusal.Refusal.{Refusal}
-use Rattle.reading.specs.Service.{ReadSays, name_answer}
+use Rattle.reading.specs.Service.{ReadSays, refused_with, name_answer, unnamed}
 use Rattle.reading.specs.declared.parse.Parsed.{Parsed}
-use Rattle.reading.specs.declared.parse.Parsed.TheVariants as parsed
-use Rattle.reading.specs.declared.name.Named.TheVariants as named
 use Rattle.evaluate.specs.Evaluated.{evaluated}
 use Rattle.evaluate.specs.declared.Evaluation.TheVariants as evaluation
 use Rattle.gaps.specs.declared.writing.Found.TheVariants.{Done, More}
@@ -71,8 +69,8 @@ pub record NextTogether (text : List ℕ) (s : ℕ) : Type 0 where
 
 -- reading refused the text with f: each service answers f, and a lent slice is unchanged
 pub record RefusedTogether (text : List ℕ) (f : Refusal) : Type 0 where
-  pub read : (room : List ℕ) (r : Parsed) (after : List ℕ) → ReadSays text room r after → (r ≡ parsed.Refused f) × (after ≡ room)
-  pub name : (i : ℕ) → name_answer (reading text) i ≡ named.Refused f
+  pub read : (room : List ℕ) (r : Parsed) (after : List ℕ) → ReadSays text room r after → (r ≡ refused_with f.number f.place) × (after ≡ room)
+  pub name : (i : ℕ) → name_answer (reading text) i ≡ unnamed f.number f.place
   pub evaluate : (state : ℕ) → evaluated (reading text) state ≡ evaluation.Refused f
   pub list : (start : ℕ) → ListsSo text start (λ out answer after. (answer ≡ listing.Refused f) × (after ≡ out))
   -- check answers f, and nothing else, at each depth up to its ceiling; at every depth where the text is too long, since 1 stands before 2

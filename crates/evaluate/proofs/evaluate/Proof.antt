@@ -41,21 +41,17 @@ is-state-requires c κs =
     parse·.new.1.1.0 f).few in
     omega arith
 
-fault-requires : tie.Need-fault-requires
-fault-requires c κs = search rules
-
 returns-2 : tie.Need-returns-2
 returns-2 c =
-    let the-args = c.before.before.before.before.before.before.before.before.before.before.args in
-    let parse· = c.before.before.before.before.before.before.parse in
-    let parsed2· = c.before.before.before.before.parsed2 in
-    let is-state· = c.before.before.is_state in
-    let if1· = c.before.if1 in
-    let fault· = c.fault in
+    let the-args = c.before.before.before.before.before.before.before.before.before.args in
+    let parse· = c.before.before.before.before.before.parse in
+    let parsed2· = c.before.before.before.parsed2 in
+    let is-state· = c.before.is_state in
+    let if1· = c.if1 in
     let f = guard-found the-args.text.now (reading the-args.text.now) parse·.result parse·.new.1.0 parse·.new.1.1.0
     parse·.ensures parsed2·.given.0.0 parsed2·.given.1 in
     evaluates-no-state the-args.text.now the-args.state parsed2·.given.0.0 parse·.new.1.0 parse·.new.1.1.0 f
-    (sym is-state·.ensures ∙ not-true is-state·.result if1·.true) fault·.result fault·.ensures
+    (sym is-state·.ensures ∙ not-true is-state·.result if1·.true)
 
 slice-aggregate-root-value : tie.Need-slice-aggregate-root-value
 slice-aggregate-root-value c =
@@ -96,7 +92,6 @@ evaluate-spec =
     returns
     enum-known-parsed-2
     is-state-requires
-    fault-requires
     returns-2
     slice-aggregate-root-value
     root-value-requires

@@ -1,9 +1,9 @@
 -- Answers within their ceilings: a packed number has room for each of them.
-use Rattle.std.specs.Prelude.{ℕ, ◌^◌, ◌≤◌, ◌<◌}
+use Rattle.std.specs.Prelude.{◌^◌, ◌≤◌, ◌<◌}
 use Rattle.notation.specs.Ceilings.{text_ceiling, code_ceiling, flag_ceiling, connective_ceiling}
 use Rattle.notation.specs.Triplets.{literal_ceiling}
 use Rattle.notation.specs.declared.refusal.Refusal.{Refusal}
-use Rattle.reading.specs.clauses.Parsing.{last_wanted}
+use Rattle.reading.specs.clauses.Parsing.{last_refusal}
 use Rattle.reading.specs.declared.parse.Guard as counted
 use Rattle.reading.specs.declared.parse.Parsed.{Parsed}
 use Rattle.reading.specs.declared.parse.Parsed.TheVariants as parsed
@@ -17,18 +17,11 @@ use Rattle.list.specs.declared.Listing.{Listing}
 use Rattle.list.specs.declared.Listing.TheVariants as listing
 use Rattle.saturation.specs.declared.verdict.Verdict.{Verdict}
 use Rattle.saturation.specs.declared.verdict.Verdict.TheVariants as verdict
-use Rattle.why.specs.declared.Explanation.{Explanation}
-use Rattle.why.specs.declared.Explanation.TheVariants as explanation
 
--- the last number of the table that an entry answers
-abbrev pub last_answered : ℕ
-last_answered = 16
-
--- a number of the table, a place within the longest text, and a number of what may be wanted
+-- a number of the table, and a place within the longest text
 pub record RefusalFits (f : Refusal) : Type 0 where
-  pub number : f.number ≤ last_answered
+  pub number : f.number ≤ last_refusal
   pub place : f.place ≤ text_ceiling
-  pub wanted : f.wanted ≤ last_wanted
 
 -- a gap is a state of so many flags as there may be
 abbrev pub VerdictFits : Verdict → Type 0
@@ -64,8 +57,3 @@ ParsedFits (parsed.Refused f) = RefusalFits f
 abbrev pub NamedFits : Named → Type 0
 NamedFits (named.Part start len) = (start ≤ text_ceiling) × (len ≤ code_ceiling)
 NamedFits (named.Refused f) = RefusalFits f
-
--- the lent number has room for any flags
-abbrev pub ExplanationFits : Explanation → Type 0
-ExplanationFits (explanation.Kept m) = Unit {0}
-ExplanationFits (explanation.Refused f) = RefusalFits f

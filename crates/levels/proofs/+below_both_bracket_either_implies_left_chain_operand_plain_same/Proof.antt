@@ -147,10 +147,10 @@ use Rattle.levels.proofs.+below_both_bracket_either_implies_left_chain_operand_p
   plain-code-operand-requires,
   plain-truth-operand-requires,
   plain-bracket-requires,
-  plain-no-operand-requires,
-  plain-no-operand-requires-2,
-  plain-no-operand-requires-3,
-  plain-no-operand-requires-4,
+  plain-refused-requires,
+  plain-refused-requires-2,
+  plain-refused-requires-3,
+  plain-refused-requires-4,
   plain-returns,
   plain-returns-2,
   plain-returns-3,
@@ -319,13 +319,13 @@ pub +below-both-bracket-either-implies-left-chain-operand-plain-same-spec :
     (λ c. search rules)
     (plain-bracket-requires t)
     (λ c. search rules)
-    (plain-no-operand-requires t)
+    (plain-refused-requires t)
     (λ c. search rules)
-    (plain-no-operand-requires-2 t)
+    (plain-refused-requires-2 t)
     (λ c. search rules)
-    (plain-no-operand-requires-3 t)
+    (plain-refused-requires-3 t)
     (λ c. search rules)
-    (plain-no-operand-requires-4 t)
+    (plain-refused-requires-4 t)
     (plain-returns t)
     (plain-returns-2 t)
     (plain-returns-3 t)

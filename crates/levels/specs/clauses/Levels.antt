@@ -1,14 +1,14 @@
 -- What a level of the reader asks and answers: the tree, the walk and the triplets of the operand that it read.
-use Rattle.std.specs.Prelude.{ℕ, ◌+◌, ◌-◌, ◌*◌, ◌≤◌, ◌<◌, ◌≡◌, false, List, length, get_or}
+use Rattle.std.specs.Prelude.{ℕ, ◌+◌, ◌-◌, ◌*◌, ◌≤◌, ◌<◌, ◌≡◌, false, List, ◌++◌, length, take, get_or}
 use Rattle.notation.specs.Ceilings.{bracket_ceiling, connective_ceiling}
 use Rattle.notation.specs.Tokens.{Tokens, Sign, same, implies, or, and}
 use Rattle.notation.specs.Walk.{Flag, refused, walk, operand, after}
 use Rattle.notation.specs.Guard.{Guard, connectives}
 use Rattle.notation.specs.Grammar.{Level, found, sign_next, operand_of, in_brackets, left_level, right_level}
-use Rattle.notation.specs.clauses.Writing.{Writes}
+use Rattle.notation.specs.Triplets.{literal, triplets, numbers, literal_ceiling}
 use Rattle.notation.specs.clauses.Cut.{ahead}
 use Rattle.notation.specs.clauses.Codes.{flags_in}
-use Rattle.notation.specs.clauses.Place.{place_room, token_in, refusal_in}
+use Rattle.notation.specs.clauses.Place.{place_room, token_in}
 use Rattle.operands.specs.clauses.Steps.{At, Part, binding, place, waiting, Standing}
 use Rattle.operands.specs.declared.Answer.{Answer}
 use Rattle.operands.specs.declared.Answer.TheVariants as answer
@@ -20,6 +20,13 @@ pub record Reads (L : ℕ → Level) (d k : ℕ) (u : List Flag) (m : ℕ) (ts :
     pub walked : walk operand d u m ts ≡ walk after d u' m' ts'
     pub signs : m' ≡ m + connectives g
     pub stops : (s : Sign) → binding s ≤ k → sign_next s ts' ≡ false
+
+-- the triplets of the guard g have been written after c others, and l is its literal
+pub record Writes (c c' : ℕ) (out out' : List ℕ) (g : Guard) (l : ℕ) : Type 0 where
+  pub literal : l ≡ literal c g
+  pub small : l ≤ literal_ceiling
+  pub count : c' ≡ c + connectives g
+  pub written : take (3 * c') out' ≡ take (3 * c) out ++ numbers (triplets c g)
 
 -- an operand was read from where the reader stood
 pub record FoundPart (L : ℕ → Level) (d k : ℕ) (text : List ℕ) (at : At) (codes out : List ℕ) (p : Part) (codes' out' : List ℕ) : Type 0 where
@@ -77,7 +84,7 @@ pub record Still (p wait p' wait' : List ℕ) : Type 0 where
 pub record Says (L : ℕ → Level) (d k : ℕ) (text p codes out wait : List ℕ) (r : Answer) (p' codes' out' wait' : List ℕ) : Type 0 where
   pub found : (l : ℕ) → r ≡ answer.Found l → FoundPart L d k text (place p) codes out (part l p') codes' out'
   pub refused : r ≡ answer.Refused →
-      walk operand d (flags_in text codes (get_or p 3 0)) (get_or p 4 0) (ahead text (token_in p)) ≡ refused (refusal_in p')
+      walk operand d (flags_in text codes (get_or p 3 0)) (get_or p 4 0) (ahead text (token_in p)) ≡ refused (get_or p' 6 0) (get_or p' 1 0)
   pub still : (l : ℕ) → r ≡ answer.Found l → Still p wait p' wait'
   pub rooms : Rooms p' out' wait'
 

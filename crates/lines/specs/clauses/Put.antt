@@ -24,10 +24,6 @@ pub record CodeTable (text codes : List ℕ) (k : ℕ) : Type 0 where
 abbrev pub number_room : ℕ
 number_room = 20
 
--- a space and what was wanted
-abbrev pub wanted_room : ℕ
-wanted_room = 1 + number_room
-
 -- a flag with its value: a space, the code, `=` and a digit
 abbrev pub value_room : ℕ
 value_room = code_ceiling + 3

@@ -1,5 +1,5 @@
--- Where the reader stands, as nine lent numbers: kind, start and next of the token ahead; the flags, signs and triplets behind; the
--- number of a refusal; how many literals wait; and what was wanted where a token cannot stand.
+-- Where the reader stands, as eight lent numbers: kind, start and next of the token ahead; the flags, signs and triplets behind; the
+-- number of a refusal; and how many literals wait.
 use Rattle.std.specs.Prelude.{ℕ, ◌≡◌, true, false, List, [], ◌∷◌, length, get_or}
 use Rattle.notation.specs.clauses.Cut.{Token, NextToken, FaultyHere}
 use Rattle.notation.specs.Tokens.{tokens_at}
@@ -12,7 +12,7 @@ use Rattle.notation.specs.declared.place.Step.TheVariants as step
 
 -- the numbers of a place
 abbrev pub place_room : ℕ
-place_room = 9
+place_room = 8
 
 -- the kinds by their numbers: 2 a code, 4 to 10 the tokens of one byte, 11 and 12 `#0` and `#1`, else the end
 abbrev pub kinds : List Kind
@@ -30,7 +30,7 @@ token_in p = record { kind = kind_of (get_or p 0 0); start = get_or p 1 0; next 
 
 -- the refusal that a place holds
 abbrev pub refusal_in : List ℕ → Refusal
-refusal_in p = record { number = get_or p 6 0; place = get_or p 1 0; wanted = get_or p 8 0 }
+refusal_in p = record { number = get_or p 6 0; place = get_or p 1 0 }
 
 -- what lies behind, and what waits, is as it was
 pub record SameBehind (p p' : List ℕ) : Type 0 where
@@ -46,9 +46,9 @@ pub record Stored (k s e : ℕ) (p p' : List ℕ) : Type 0 where
   pub behind : SameBehind p p'
 
 -- the place holds this refusal now
-pub record RefusedAt (f : Refusal) (p : List ℕ) (r : Step) (p' : List ℕ) : Type 0 where
+pub record RefusedAt (n s : ℕ) (p : List ℕ) (r : Step) (p' : List ℕ) : Type 0 where
   pub answer : r ≡ step.Refused
-  pub refusal : refusal_in p' ≡ f
+  pub refusal : refusal_in p' ≡ record { number = n; place = s }
   pub behind : SameBehind p p'
 
 -- the next token from a place of the text on is ahead now, or it is faulty

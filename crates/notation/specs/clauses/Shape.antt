@@ -1,6 +1,5 @@
 -- The shape of what reading writes: which literals a triplet and the root may name.
 use Rattle.std.specs.Prelude.{ℕ, ◌+◌, ◌*◌, ◌/◌, ◌≤◌, ◌<◌, ◌⊎◌, List, length, get_or, ◌≡◌}
-use Rattle.notation.specs.Ceilings.{flag_ceiling, connective_ceiling}
 use Rattle.notation.specs.Guard.{Guard, flag, truth, negated, joined, connectives}
 use Rattle.notation.specs.Triplets.{triplet_variable, literal_ceiling, literal, triplets, numbers}
 
@@ -30,16 +29,6 @@ FlagsWithin n (flag i) = (0 < i) × (i ≤ n)
 FlagsWithin n (truth b) = Unit {0}
 FlagsWithin n (negated g) = FlagsWithin n g
 FlagsWithin n (joined c g h) = FlagsWithin n g × FlagsWithin n h
-
--- a guard has its flags among n, and these are not over their ceiling
-pub record Proper (n : ℕ) (g : Guard) : Type 0 where
-  pub few : n ≤ flag_ceiling
-  pub within : FlagsWithin n g
-
--- nor are its connectives over theirs: so is each guard that reading gives
-pub record Accepted (n : ℕ) (g : Guard) : Type 0 where
-  pub proper : Proper n g
-  pub short : connectives g ≤ connective_ceiling
 
 -- what reading writes: as many triplets as two-sided connectives, each of kind 0 or 1 over operands that are known before it, and no literal over the largest
 pub record Shapely (n : ℕ) (g : Guard) : Type 0 where

@@ -1,7 +1,6 @@
--- A literal with a sign beside it, and how a triplet and a guard's triplets stand in a lent table.
-use Rattle.std.specs.Prelude.{ℕ, ◌+◌, ◌*◌, ◌/◌, ◌%◌, ◌≤◌, ◌≡◌, List, ◌++◌, set, take}
-use Rattle.notation.specs.Guard.{Guard, connectives}
-use Rattle.notation.specs.Triplets.{Triplet, literal, triplets, numbers, literal_ceiling}
+-- A literal with a sign beside it, and how a triplet stands in a lent table.
+use Rattle.std.specs.Prelude.{ℕ, ◌+◌, ◌*◌, ◌/◌, ◌%◌, List, set}
+use Rattle.notation.specs.Triplets.{Triplet}
 
 -- the literal l, negated where s is odd
 unfoldable pub signed : ℕ → ℕ → ℕ
@@ -13,10 +12,3 @@ put_at out c k y z = set (set (set out (3 * c) k) (3 * c + 1) y) (3 * c + 2) z
 
 abbrev pub triplet_at : List ℕ → ℕ → Triplet → List ℕ
 triplet_at out c t = put_at out c t.kind t.y t.z
-
--- the triplets of the guard g have been written after c others, and l is its literal
-pub record Writes (c c' : ℕ) (out out' : List ℕ) (g : Guard) (l : ℕ) : Type 0 where
-  pub literal : l ≡ literal c g
-  pub small : l ≤ literal_ceiling
-  pub count : c' ≡ c + connectives g
-  pub written : take (3 * c') out' ≡ take (3 * c) out ++ numbers (triplets c g)

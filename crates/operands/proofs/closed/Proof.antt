@@ -28,16 +28,16 @@ returns c =
     let advanced· = c.advanced in
     closed-says (sym closing-follows·.ensures ∙ if1·.true) advanced·.ensures
 
-misplace-requires : tie.Need-misplace-requires
-misplace-requires c κs = search rules
+refuse-requires : tie.Need-refuse-requires
+refuse-requires c κs = search rules
 
 returns-2 : tie.Need-returns-2
 returns-2 c =
     let pre· = c.before.before.before.before.before.before.before.requires in
     let closing-follows· = c.before.before.before.closing-follows in
     let if1· = c.before.before.if1 in
-    let misplace· = c.misplace in
-    closed-refused pre·.1.1 (sym closing-follows·.ensures ∙ if1·.false) misplace·.ensures
+    let refuse· = c.refuse in
+    closed-refused pre·.1.1 (sym closing-follows·.ensures ∙ if1·.false) refuse·.ensures
 
 pub closed-spec : {M : Type 1} → statement M
 closed-spec =
@@ -47,5 +47,5 @@ closed-spec =
     closing-follows-requires
     advanced-requires
     returns
-    misplace-requires
+    refuse-requires
     returns-2)

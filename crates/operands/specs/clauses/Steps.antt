@@ -1,6 +1,5 @@
 -- What a step of the reader over its lent place promises, and what an operand of one token does.
 use Rattle.std.specs.Prelude.{ℕ, suc, ◌+◌, ◌*◌, ◌≤◌, ◌<◌, ◌≡◌, Bool, true, false, List, [], length, get_or}
-use Rattle.notation.specs.declared.refusal.Refusal.{Refusal}
 use Rattle.notation.specs.Ceilings.{flag_ceiling, connective_ceiling}
 use Rattle.notation.specs.Tokens as tokens
 use Rattle.notation.specs.Tokens.{Sign}
@@ -131,7 +130,7 @@ pub record AdvancedSays (text p : List ℕ) (r : Step) (p' : List ℕ) : Type 0 
 pub record PastSignSays (text p : List ℕ) (r : Step) (p' : List ℕ) : Type 0 where
   pub taken : r ≡ step.Taken → Advanced text (place p) (get_or p 4 0 + 1) (place p') × (get_or p 4 0 < connective_ceiling)
   pub refused : r ≡ step.Refused → (d : ℕ) (u : List Flag) →
-      walk after d u (get_or p 4 0) (ahead text (token_in p)) ≡ refused (refusal_in p')
+      walk after d u (get_or p 4 0) (ahead text (token_in p)) ≡ refused (get_or p' 6 0) (get_or p' 1 0)
   pub kept : Kept p p'
 
 -- the literal l past a token, or what follows is faulty
@@ -160,7 +159,7 @@ pub record Atom (text : List ℕ) (at : At) (codes : List ℕ) (l : ℕ) (to : A
 pub record AtomSays (text p codes : List ℕ) (r : Answer) (p' codes' : List ℕ) : Type 0 where
   pub found : (l : ℕ) → r ≡ answer.Found l → Atom text (place p) codes l (place p') codes'
   pub refused : r ≡ answer.Refused → (d : ℕ) →
-      walk operand d (flags_in text codes (get_or p 3 0)) (get_or p 4 0) (ahead text (token_in p)) ≡ refused (refusal_in p')
+      walk operand d (flags_in text codes (get_or p 3 0)) (get_or p 4 0) (ahead text (token_in p)) ≡ refused (get_or p' 6 0) (get_or p' 1 0)
   pub kept : Kept p p'
 
 -- `#0` or `#1`, whatever the table holds
@@ -177,13 +176,14 @@ pub record Closed (text : List ℕ) (at to : At) : Type 0 where
 pub record ClosedSays (text p : List ℕ) (r : Step) (p' : List ℕ) : Type 0 where
   pub taken : r ≡ step.Taken → Closed text (place p) (place p')
   pub refused : r ≡ step.Refused → (d : ℕ) (u : List Flag) (m : ℕ) →
-      walk after (suc d) u m (ahead text (token_in p)) ≡ refused (refusal_in p')
+      walk after (suc d) u m (ahead text (token_in p)) ≡ refused (get_or p' 6 0) (get_or p' 1 0)
   pub kept : Kept p p'
 
--- refused with f
-pub record RefusedSays (f : Refusal) (p : List ℕ) (r : Answer) (p' : List ℕ) : Type 0 where
+-- refused with the number n at the token ahead
+pub record RefusedSays (n : ℕ) (p : List ℕ) (r : Answer) (p' : List ℕ) : Type 0 where
   pub refused : r ≡ answer.Refused
-  pub refusal : refusal_in p' ≡ f
+  pub number : get_or p' 6 0 ≡ n
+  pub start : get_or p' 1 0 ≡ get_or p 1 0
   pub kept : Kept p p'
 
 -- two operands joined: the reader has written one triplet more

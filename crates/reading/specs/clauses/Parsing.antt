@@ -1,9 +1,8 @@
 -- What parse answers, and what the lent tables then hold.
 use Rattle.std.specs.Prelude.{ℕ, ◌-◌, ◌*◌, ◌≤◌, ◌<◌, ◌≡◌, List, length, take, leb, ltb}
-use Rattle.notation.specs.Refusals.{fault, misplaced}
 use Rattle.notation.specs.Ceilings.{flag_ceiling, connective_ceiling}
 use Rattle.ground.specs.Choice.{choose}
-use Rattle.notation.specs.Walk.{Flag, after, wants}
+use Rattle.notation.specs.Walk.{Flag}
 use Rattle.notation.specs.Guard.{Guard, connectives}
 use Rattle.notation.specs.Triplets.{literal, triplets, numbers}
 use Rattle.notation.specs.Reading.{Reading, refusal, guard}
@@ -11,18 +10,13 @@ use Rattle.notation.specs.clauses.Cut.{ends}
 use Rattle.notation.specs.clauses.Codes.{codes_room, start_of, end_of, flags_in, InText}
 use Rattle.operands.specs.clauses.Steps.{Part}
 use Rattle.reading.specs.declared.parse.Parsed.{Parsed}
-use Rattle.reading.specs.declared.parse.Parsed.TheVariants as parsed
 use Rattle.reading.specs.declared.name.Named.{Named}
 use Rattle.reading.specs.declared.name.Named.TheVariants as named
-use Rattle.reading.specs.Service.{guard_with}
+use Rattle.reading.specs.Service.{guard_with, refused_with, unnamed}
 
 -- the last number of the table of refusals
 abbrev pub last_refusal : ℕ
 last_refusal = 12
-
--- the last number of what may be wanted
-abbrev pub last_wanted : ℕ
-last_wanted = 3
 
 -- the guard of a text, in lent tables: its flags, and its triplets as numbers
 pub record GuardRead (text : List ℕ) (g : Guard) (u : List Flag) (r : Parsed) (codes out : List ℕ) : Type 0 where
@@ -37,13 +31,12 @@ pub record GuardRead (text : List ℕ) (g : Guard) (u : List Flag) (r : Parsed) 
 
 -- what parse answers, and what the lent tables then hold
 abbrev pub ParseSays : List ℕ → Reading → Parsed → List ℕ → List ℕ → Type 0
-ParseSays text (refusal f) r codes out = r ≡ parsed.Refused f
+ParseSays text (refusal k p) r codes out = r ≡ refused_with k p
 ParseSays text (guard g u) r codes out = GuardRead text g u r codes out
 
 -- a guard that the text ends after
 abbrev pub ended_as : Part → Parsed
-ended_as p = choose (ends p.at.token.kind) (guard_with p.at.flags p.at.count p.literal)
-    (parsed.Refused (misplaced (wants after 0) p.at.token.start))
+ended_as p = choose (ends p.at.token.kind) (guard_with p.at.flags p.at.count p.literal) (refused_with 5 p.at.token.start)
 
 -- the first k codes of the table end no earlier than they start
 pub record Spans (codes : List ℕ) (k : ℕ) : Type 0 where
@@ -53,4 +46,4 @@ pub record Spans (codes : List ℕ) (k : ℕ) : Type 0 where
 -- the part that code i of the table is, i counted from 1
 abbrev pub named_in : List ℕ → ℕ → ℕ → Named
 named_in codes k i = choose (ltb 0 i) (choose (leb i k) (named.Part (start_of codes (i - 1)) (end_of codes (i - 1) - start_of codes (i - 1)))
-    (named.Refused (fault 11 0))) (named.Refused (fault 11 0))
+    (unnamed 11 0)) (unnamed 11 0)

@@ -5,7 +5,7 @@ use borrow.Author.Rules.{rules}
 use lib.Pow.{pow_mono}
 use Rattle.rows.specs.clauses.Rows.{word_flags}
 use Rattle.search.specs.clauses.Walking.{widest}
-use Rattle.search.proofs.Walks.{searched, stretch-all, rows_all, shifted, words-hold, flags-fit, rows-shifted}
+use Rattle.search.proofs.Walks.{searched, stretch-all, rows_all, shifted, words-hold, flags-fit}
 use Rattle.search.proofs.at_once.Statement.{statement}
 use Rattle.search.proofs.at_once.Tie as tie
 
@@ -15,10 +15,7 @@ shl-width c = search rules
 flag-rows-requires : tie.Need-flag-rows-requires
 flag-rows-requires c κs =
     let pre· = c.before.before.before.before.requires in
-    let the-args = c.before.before.before.before.args in (
-      omega arith,
-      flags-fit the-args.count _ _ _ pre·.0.0.flags (rows-shifted _ the-args.more _ (omega arith) pre·.1.1),
-    )
+    (omega arith, flags-fit _ _ _ pre·.0.0.flags (omega arith))
 
 block-requires : tie.Need-block-requires
 block-requires c κs =
@@ -27,8 +24,7 @@ block-requires c κs =
     let flag-rows· = c.before.before.before.before.flag-rows in
     let e = shifted more· (omega arith) in (
       pre·.0.0,
-      rows_all _ _ (word_flags + more·) _ _ _ pre·.0.1 (omega (arith, words-hold more·))
-          (rows-shifted _ more· _ (omega arith) pre·.1.1) flag-rows·.ensures,
+      rows_all _ (word_flags + more·) _ _ _ pre·.0.1 (omega (arith, words-hold more·)) (omega arith) flag-rows·.ensures,
       stretch-all _ _ pre·.0.0.flags (omega (arith, pow_mono {i = more·} {j = widest} pre·.1.0)),
       omega arith,
     )

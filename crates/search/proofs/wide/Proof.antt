@@ -26,7 +26,7 @@ walk-requires c κs =
     let flag-rows· = c.before.before.before.before.flag-rows in (
       (
         pre·.0,
-        rows_all _ _ (word_flags + widest) _ _ _ pre·.1 (omega arith) (omega arith) flag-rows·.ensures,
+        rows_all _ (word_flags + widest) _ _ _ pre·.1 (omega arith) (omega arith) flag-rows·.ensures,
         stretch-all _ _ pre·.0.flags
             (omega arith),
         omega arith,

@@ -1,5 +1,6 @@
 -- What the walk over the states asks and promises.
 use Rattle.std.specs.Prelude.{ℕ, suc, ◌+◌, ◌*◌, ◌%◌, ◌^◌, ◌≤◌, ◌≡◌, Bool, List, length}
+use Rattle.notation.specs.Ceilings.{connective_ceiling}
 use Rattle.notation.specs.Triplets.{triplet_variable}
 use Rattle.gaps.specs.declared.writing.Found.{Found}
 use Rattle.gaps.specs.Gaps.{false_from}
@@ -11,20 +12,10 @@ use Rattle.gaps.specs.clauses.Rows.{Writes, since}
 abbrev pub widest : ℕ
 widest = 5
 
--- words of the three smaller tables of rows; a table that holds all rows there can be is the fourth
-abbrev pub least_words : ℕ
-least_words = 64
-
-abbrev pub few_words : ℕ
-few_words = 320
-
-abbrev pub many_words : ℕ
-many_words = 1792
-
--- rows of so many words for the variables of so many triplets, with room for the states of so many flags, whose rows are right
-pub record Rows (count low width : ℕ) (rows : List ℕ) : Type 0 where
+-- rows of so many words for all variables, with room for the states of so many flags, whose rows are right
+pub record Rows (low width : ℕ) (rows : List ℕ) : Type 0 where
   pub enough : 2 ^ low ≤ word_bits * width
-  pub long : triplet_variable (suc count) * width ≤ length rows
+  pub long : triplet_variable (suc connective_ceiling) * width ≤ length rows
   pub right : FlagRows low width rows
 
 -- a stretch of 2^n states that starts at a multiple of 2^n and that 32 bits hold, with some room behind it

@@ -8,26 +8,18 @@ use borrow.Author.Rules.{rules}
 use Rattle.guard_check.proofs.check.check.Statement.{statement}
 use Rattle.guard_check.proofs.check.check.Tie as tie
 
-fault-requires : tie.Need-fault-requires
-fault-requires c κs = search rules
-
 returns : tie.Need-returns
 returns c =
-    let the-args = c.before.before.before.args in
-    let if1· = c.before.if1 in
-    let fault· = c.fault in
-    too_long the-args.text.now the-args.depth (omega (arith, if1·.true)) fault·.result fault·.ensures
-
-fault-requires-2 : tie.Need-fault-requires-2
-fault-requires-2 c κs = search rules
+    let the-args = c.before.before.args in
+    let if1· = c.if1 in
+    too_long the-args.text.now the-args.depth (omega (arith, if1·.true))
 
 returns-2 : tie.Need-returns-2
 returns-2 c =
-    let the-args = c.before.before.before.before.args in
-    let if1· = c.before.before.if1 in
-    let if2· = c.before.if2 in
-    let fault2· = c.fault2 in
-    too-deep the-args.text.now the-args.depth (omega (arith, if1·.false)) (omega (arith, if2·.true)) fault2·.result fault2·.ensures
+    let the-args = c.before.before.before.args in
+    let if1· = c.before.if1 in
+    let if2· = c.if2 in
+    too-deep the-args.text.now the-args.depth (omega (arith, if1·.false)) (omega (arith, if2·.true))
 
 parse-requires : tie.Need-parse-requires
 parse-requires c κs = search rules
@@ -90,9 +82,7 @@ pub check-spec : {M : Type 1} → statement M
 check-spec =
     tie.close
     (tie.spec
-    fault-requires
     returns
-    fault-requires-2
     returns-2
     parse-requires
     enum-known-parsed

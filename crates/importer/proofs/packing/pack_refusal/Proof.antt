@@ -1,4 +1,4 @@
--- `importer::packing::pack_refusal` meets its contract: each part is within its ceiling, so the payload has room for all three.
+-- `importer::packing::pack_refusal` meets its contract: number and place are within their ceilings, so the payload has room for both.
 use borrow.Author.Rules.{rules}
 use Rattle.importer.proofs.packing.pack_refusal.Statement.{statement}
 use Rattle.importer.proofs.packing.pack_refusal.Tie as tie
@@ -6,14 +6,8 @@ use Rattle.importer.proofs.packing.pack_refusal.Tie as tie
 mul-number-of : tie.Need-overflow-mul-number-of
 mul-number-of c = search rules
 
-mul-number-of-2 : tie.Need-overflow-mul-number-of-2
-mul-number-of-2 c = search rules
-
 add-number-of : tie.Need-overflow-add-number-of
 add-number-of c = search rules
-
-add-number-of-2 : tie.Need-overflow-add-number-of-2
-add-number-of-2 c = search rules
 
 number-of-requires : tie.Need-number-of-requires
 number-of-requires c κs = search rules
@@ -22,4 +16,4 @@ returns : tie.Need-returns
 returns c = c.number_of_lem.ensures
 
 pub pack-refusal-spec : {M : Type 1} → statement M
-pack-refusal-spec = tie.close (tie.spec mul-number-of mul-number-of-2 add-number-of add-number-of-2 number-of-requires returns)
+pack-refusal-spec = tie.close (tie.spec mul-number-of add-number-of number-of-requires returns)

@@ -45,7 +45,6 @@ use Rattle.operands.proofs.join_last.Reads as join-last-reads
 use Rattle.operands.proofs.joined.Reads as joined-reads
 use Rattle.operands.proofs.past_sign.Reads as past-sign-reads
 use Rattle.operands.proofs.refused.Reads as refused-reads
-use Rattle.operands.proofs.no_operand.Reads as no-operand-reads
 use Rattle.operands.proofs.set_aside.Reads as set-aside-reads
 use Rattle.operands.proofs.sign_follows.Reads as sign-follows-reads
 use Rattle.operands.proofs.truth_operand.Reads as truth-operand-reads
@@ -202,8 +201,8 @@ plain_in t = (
   truth-operand-reads.Learnt,
   bracket-below t,
   bracket-fn.Post,
-  no-operand-reads.Asked,
-  no-operand-reads.Learnt,
+  refused-reads.Asked,
+  refused-reads.Learnt,
 )
 
 abbrev pub same_in : ℕ → same-lts.Claims

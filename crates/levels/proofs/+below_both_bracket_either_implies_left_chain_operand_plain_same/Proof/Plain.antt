@@ -4,7 +4,7 @@ use native.Mathlib.Omega.{arith}
 use mathlib.Core.Bool.{true≢false}
 use Rattle.operands.specs.clauses.Steps.{bangs}
 use Rattle.operands.proofs.Operands.{opens}
-use Rattle.levels.proofs.Nested.{atom-level, not-operand}
+use Rattle.levels.proofs.Nested.{atom-level, misplaced}
 use Prim.Native.Nat.{ℕ}
 use Rattle.levels.proofs.plain.Reads as plain_Fn
 use Rattle.levels.proofs.+below_both_bracket_either_implies_left_chain_operand_plain_same.Lts-plain as plain-lts
@@ -31,23 +31,23 @@ plain-bracket-requires t c κs =
     let enum-told2· = c.before.before.before.before.enum-told2 in
     (omega (arith, pre·.0), (pre·.1.0, sym kind-of·.ensures ∙ enum-told2·.given.1))
 
-pub plain-no-operand-requires : (t : ℕ) → plain-lts.Need-no-operand-requires (plain_in t) (plain_at t) plain_Fn.Post
-plain-no-operand-requires t c κs =
+pub plain-refused-requires : (t : ℕ) → plain-lts.Need-refused-requires (plain_in t) (plain_at t) plain_Fn.Post
+plain-refused-requires t c κs =
     let pre· = c.before.before.before.before.before.before.requires in
     pre·.1.0.rooms.numbers
 
-pub plain-no-operand-requires-2 : (t : ℕ) → plain-lts.Need-no-operand-requires-2 (plain_in t) (plain_at t) plain_Fn.Post
-plain-no-operand-requires-2 t c κs =
+pub plain-refused-requires-2 : (t : ℕ) → plain-lts.Need-refused-requires-2 (plain_in t) (plain_at t) plain_Fn.Post
+plain-refused-requires-2 t c κs =
     let pre· = c.before.before.before.before.before.before.requires in
     pre·.1.0.rooms.numbers
 
-pub plain-no-operand-requires-3 : (t : ℕ) → plain-lts.Need-no-operand-requires-3 (plain_in t) (plain_at t) plain_Fn.Post
-plain-no-operand-requires-3 t c κs =
+pub plain-refused-requires-3 : (t : ℕ) → plain-lts.Need-refused-requires-3 (plain_in t) (plain_at t) plain_Fn.Post
+plain-refused-requires-3 t c κs =
     let pre· = c.before.before.before.before.before.before.requires in
     pre·.1.0.rooms.numbers
 
-pub plain-no-operand-requires-4 : (t : ℕ) → plain-lts.Need-no-operand-requires-4 (plain_in t) (plain_at t) plain_Fn.Post
-plain-no-operand-requires-4 t c κs =
+pub plain-refused-requires-4 : (t : ℕ) → plain-lts.Need-refused-requires-4 (plain_in t) (plain_at t) plain_Fn.Post
+plain-refused-requires-4 t c κs =
     let pre· = c.before.before.before.before.before.before.requires in
     pre·.1.0.rooms.numbers
 
@@ -74,8 +74,8 @@ plain-returns-4 t c =
     let pre· = c.before.before.before.before.before.before.before.requires in
     let kind-of· = c.before.before.before.before.kind-of in
     let enum-told3· = c.before.before.enum-told3 in
-    let no-operand· = c.no_operand in
-    not-operand pre·.1.0 (ap opens (sym kind-of·.ensures ∙ enum-told3·.given.1)) no-operand·.ensures
+    let refused· = c.refused in
+    misplaced pre·.1.0 (ap opens (sym kind-of·.ensures ∙ enum-told3·.given.1)) refused·.ensures
 
 pub plain-returns-5 : (t : ℕ) → plain-lts.Need-returns-5 (plain_in t) (plain_at t) plain_Fn.Post
 plain-returns-5 t c =
@@ -89,13 +89,13 @@ plain-returns-6 t c =
     let pre· = c.before.before.before.before.before.before.before.requires in
     let kind-of· = c.before.before.before.before.kind-of in
     let enum-told5· = c.before.before.enum-told5 in
-    let no-operand3· = c.no-operand3 in
-    not-operand pre·.1.0 (ap opens (sym kind-of·.ensures ∙ enum-told5·.given.1)) no-operand3·.ensures
+    let refused3· = c.refused3 in
+    misplaced pre·.1.0 (ap opens (sym kind-of·.ensures ∙ enum-told5·.given.1)) refused3·.ensures
 
 pub plain-returns-7 : (t : ℕ) → plain-lts.Need-returns-7 (plain_in t) (plain_at t) plain_Fn.Post
 plain-returns-7 t c =
     let pre· = c.before.before.before.before.before.before.before.requires in
     let kind-of· = c.before.before.before.before.kind-of in
     let enum-told6· = c.before.before.enum-told6 in
-    let no-operand4· = c.no-operand4 in
-    not-operand pre·.1.0 (ap opens (sym kind-of·.ensures ∙ enum-told6·.given.1)) no-operand4·.ensures
+    let refused4· = c.refused4 in
+    misplaced pre·.1.0 (ap opens (sym kind-of·.ensures ∙ enum-told6·.given.1)) refused4·.ensures

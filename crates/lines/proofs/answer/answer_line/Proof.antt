@@ -1,5 +1,5 @@
 -- `lines::answer::answer_line` meets its contract: a line that is not of the form is refused, and another is checked.
-use mathlib.Core.Path.{sym, ap, ◌∙◌}
+use mathlib.Core.Path.{refl, sym, ◌∙◌}
 use Rattle.saturation.specs.declared.verdict.Verdict.TheVariants.{Refused}
 use Rattle.lines.specs.declared.question.Question.TheVariants.{Malformed}
 use Rattle.lines.proofs.Asking.{guard-inside}
@@ -17,9 +17,6 @@ enum-known-question c = search rules
 enum_told : tie.Need-enum-told
 enum_told c = search rules
 
-fault-requires : tie.Need-fault-requires
-fault-requires c κs = search rules
-
 slice-aggregate-put-line : tie.Need-slice-aggregate-put-line
 slice-aggregate-put-line c = search rules
 
@@ -28,13 +25,12 @@ put-line-requires c κs = search rules
 
 returns : tie.Need-returns
 returns c =
-    let the-args = c.before.before.before.before.before.before.before.before.args in
-    let fault· = c.before.before.before.fault in
+    let the-args = c.before.before.before.before.before.before.before.args in
     let put-line· = c.put-line in
-    let enum-told· = c.before.before.before.before.enum_told in
-    let question-of· = c.before.before.before.before.before.before.question-of in
-    answers the-args.number the-args.line.now Malformed (Refused fault·.result) the-args.out.now put-line·.new.0
-    put-line·.result (sym enum-told·.given.1 ∙ question-of·.ensures) (ap Refused fault·.ensures) put-line·.ensures
+    let enum-told· = c.before.before.before.enum_told in
+    let question-of· = c.before.before.before.before.before.question-of in
+    answers the-args.number the-args.line.now Malformed (Refused (record { number = 12; place = 0 })) the-args.out.now put-line·.new.0
+    put-line·.result (sym enum-told·.given.1 ∙ question-of·.ensures) refl put-line·.ensures
 
 sub-text : tie.Need-overflow-sub-text
 sub-text c =
@@ -76,7 +72,6 @@ answer-line-spec =
     question-of-requires
     enum-known-question
     enum_told
-    fault-requires
     slice-aggregate-put-line
     put-line-requires
     returns

@@ -1,4 +1,4 @@
--- `lines::answer::put_refusal` meets its contract: the word, the number, a space, the place and what was wanted.
+-- `lines::answer::put_refusal` meets its contract: the word, the number, a space and the place.
 use mathlib.Core.List.{[]}
 use Rattle.ground.specs.Bytes.{bytes}
 use Rattle.lines.proofs.Answering.{refusal-put}
@@ -21,23 +21,18 @@ put-requires c κs = search rules
 put-number-requires-2 : tie.Need-put-number-requires-2
 put-number-requires-2 c κs = search rules
 
-put-wanted-requires : tie.Need-put-wanted-requires
-put-wanted-requires c κs = search rules
-
 same_length : tie.Need-same-length
 same_length c = search rules
 
 returns : tie.Need-returns
 unfolding bytes
 returns c =
-    let the-args = c.before.before.before.before.before.before.before.before.before.before.before.before.before.before.before.before.before.before.before.before.before.before.args in
-    let put-all· = c.before.before.before.before.before.before.before.before.before.before.before.before.before.before.before.before.before.before.put_all_lem in
-    let put-number· = c.before.before.before.before.before.before.before.before.before.before.before.before.before.before.put-number in
-    let put· = c.before.before.before.before.before.before.before.before.before.before.put in
-    let put-number2· = c.before.before.before.before.before.before.put-number2 in
-    let put-wanted· = c.before.before.put_wanted in
+    let the-args = c.before.before.before.before.before.before.before.before.before.before.before.before.before.before.before.before.before.before.args in
+    let put-all· = c.before.before.before.before.before.before.before.before.before.before.before.before.before.before.put_all_lem in
+    let put-number· = c.before.before.before.before.before.before.before.before.before.before.put-number in
+    let put· = c.before.before.before.before.before.before.put in
+    let put-number2· = c.before.before.put-number2 in
     refusal-put [] the-args.refusal put-all·.ensures put-number·.ensures put·.ensures put-number2·.ensures
-    put-wanted·.ensures
 
 pub put-refusal-spec : {M : Type 1} → statement M
 put-refusal-spec =
@@ -48,6 +43,5 @@ put-refusal-spec =
     put-number-requires
     put-requires
     put-number-requires-2
-    put-wanted-requires
     same_length
     returns)

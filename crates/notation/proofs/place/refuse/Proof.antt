@@ -10,14 +10,11 @@ element-write-at c = search rules
 element-write-at-2 : tie.Need-element-write-at-2
 element-write-at-2 c = search rules
 
-element-write-at-3 : tie.Need-element-write-at-3
-element-write-at-3 c = search rules
-
 returns : tie.Need-returns
 returns c =
     let the-args = c.args in
     let pre· = c.requires in
-    refused-at the-args.number the-args.start 0 the-args.at.now (pre·)
+    refused-at the-args.number the-args.start the-args.at.now (pre·)
 
 pub refuse-spec : {M : Type 1} → statement M
-refuse-spec = tie.close (tie.spec element-write-at element-write-at-2 element-write-at-3 returns)
+refuse-spec = tie.close (tie.spec element-write-at element-write-at-2 returns)

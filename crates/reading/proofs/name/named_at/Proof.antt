@@ -1,30 +1,20 @@
 -- `reading::name::named_at` meets its contract: a number from 1 to the number of codes names a part, others none.
 use Prim.Native.Nat.{◌-◌}
-use mathlib.Core.Path.{ap}
-use Rattle.reading.specs.declared.name.Named.TheVariants as named
 use native.Mathlib.Omega.{arith}
 use borrow.Author.Tests.{le-leb, lt-leb, lt-ltb, le-ltb}
 use borrow.Author.Rules.{rules}
 use Rattle.reading.proofs.name.named_at.Statement.{statement}
 use Rattle.reading.proofs.name.named_at.Tie as tie
 
-fault-requires : tie.Need-fault-requires
-fault-requires c κs = search rules
-
 returns : tie.Need-returns
 returns c =
-    let the-args = c.before.before.before.args in
-    let fault· = c.fault in
-    rw (le-ltb 0 the-args.i (omega arith)) (ap named.Refused fault·.ensures)
-
-fault-requires-2 : tie.Need-fault-requires-2
-fault-requires-2 c κs = search rules
+    let the-args = c.before.args in
+    rw (le-ltb 0 the-args.i (omega arith))
 
 returns-2 : tie.Need-returns-2
 returns-2 c =
-    let the-args = c.before.before.before.before.args in
-    let fault2· = c.fault2 in
-    rw (lt-ltb 0 the-args.i (omega arith), lt-leb the-args.i the-args.flags (omega arith)) (ap named.Refused fault2·.ensures)
+    let the-args = c.before.before.args in
+    rw (lt-ltb 0 the-args.i (omega arith), lt-leb the-args.i the-args.flags (omega arith))
 
 mul-start : tie.Need-overflow-mul-start
 mul-start c = search rules
@@ -49,22 +39,20 @@ shared-slice-read-next c = search rules
 
 sub-t11 : tie.Need-overflow-sub-t11
 sub-t11 c =
-    let pre· = c.before.before.before.before.before.requires in
-    let the-args = c.before.before.before.before.before.args in
+    let pre· = c.before.before.before.before.requires in
+    let the-args = c.before.before.before.before.args in
     let s = pre· in s.starts (the-args.i - 1) (omega arith)
 
 returns-3 : tie.Need-returns-3
 returns-3 c =
-    let the-args = c.before.before.before.before.before.args in
+    let the-args = c.before.before.before.before.args in
     rw (lt-ltb 0 the-args.i (omega arith), le-leb the-args.i the-args.flags (omega arith))
 
 pub named-at-spec : {M : Type 1} → statement M
 named-at-spec =
     tie.close
     (tie.spec
-    fault-requires
     returns
-    fault-requires-2
     returns-2
     mul-start
     mul-start-2

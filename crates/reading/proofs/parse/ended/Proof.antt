@@ -2,11 +2,8 @@
 use mathlib.Core.Path.{sym, ap, ◌∙◌}
 use mathlib.Core.Bool.{Bool}
 use Rattle.ground.specs.Choice.{choose}
-use Rattle.notation.specs.Refusals.{misplaced}
-use Rattle.notation.specs.Walk.{after, wants}
 use Rattle.notation.specs.clauses.Cut.{ends}
-use Rattle.reading.specs.Service.{guard_with}
-use Rattle.reading.specs.declared.parse.Parsed.TheVariants as parsed
+use Rattle.reading.specs.Service.{refused_with, guard_with}
 use lib.ListN.{get_or}
 use borrow.Author.Rules.{rules}
 use Rattle.reading.proofs.parse.ended.Statement.{statement}
@@ -34,25 +31,20 @@ returns c =
     let is-end· = c.before.before.before.is-end in
     let if1· = c.before.before.if1 in
     let p = the-args.at.now in
-    sym (ap (λ (b : Bool). choose b (guard_with (get_or p 3 0) (get_or p 5 0) the-args.root) (parsed.Refused (misplaced (wants after 0) (get_or p 1 0))))
+    sym (ap (λ (b : Bool). choose b (guard_with (get_or p 3 0) (get_or p 5 0) the-args.root) (refused_with 5 (get_or p 1 0)))
     (sym (ap ends kind-of·.ensures) ∙ sym is-end·.ensures ∙ if1·.true))
 
-element-copy-out-misplaced : tie.Need-element-copy-out-misplaced
-element-copy-out-misplaced c = search rules
-
-misplaced-requires : tie.Need-misplaced-requires
-misplaced-requires c κs = search rules
+element-copy-out-t6 : tie.Need-element-copy-out-t6
+element-copy-out-t6 c = search rules
 
 returns-2 : tie.Need-returns-2
 returns-2 c =
-    let the-args = c.before.before.before.before.before.before.args in
-    let misplaced· = c.misplaced in
-    let kind-of· = c.before.before.before.before.kind-of in
-    let is-end· = c.before.before.before.is-end in
-    let if1· = c.before.before.if1 in
+    let the-args = c.before.before.before.before.before.args in
+    let kind-of· = c.before.before.before.kind-of in
+    let is-end· = c.before.before.is-end in
+    let if1· = c.before.if1 in
     let p = the-args.at.now in
-    ap parsed.Refused misplaced·.ensures
-    ∙ sym (ap (λ (b : Bool). choose b (guard_with (get_or p 3 0) (get_or p 5 0) the-args.root) (parsed.Refused (misplaced (wants after 0) (get_or p 1 0))))
+    sym (ap (λ (b : Bool). choose b (guard_with (get_or p 3 0) (get_or p 5 0) the-args.root) (refused_with 5 (get_or p 1 0)))
     (sym (ap ends kind-of·.ensures) ∙ sym is-end·.ensures ∙ if1·.false))
 
 pub ended-spec : {M : Type 1} → statement M
@@ -65,6 +57,5 @@ ended-spec =
     element-copy-out-t10
     element-copy-out-t13
     returns
-    element-copy-out-misplaced
-    misplaced-requires
+    element-copy-out-t6
     returns-2)

@@ -1,8 +1,10 @@
 -- `reading::parse::parse_from` meets its contract: the first token, the loosest level and the end each refuse as the walk does.
-use mathlib.Core.Path.{refl, sym, ap, subst}
+use mathlib.Core.Path.{refl, sym, subst}
+use Prim.Native.Nat.{◌+◌}
+use Rattle.notation.specs.Ceilings.{text_ceiling}
 use Rattle.notation.specs.clauses.Codes.{flags_in}
 use Rattle.notation.specs.Reading.{Reading}
-use Rattle.reading.specs.declared.parse.Parsed.TheVariants as parsed
+use Rattle.reading.specs.Service.{refused_with}
 use Rattle.reading.specs.clauses.Parsing.{ParseSays}
 use Rattle.reading.proofs.Parsing.{too_long, before, asks-first, faulty-first, refused-first, parse-says}
 use borrow.Author.Rules.{rules}
@@ -12,20 +14,15 @@ use Rattle.reading.proofs.parse.parse_from.Tie as tie
 sub-if1 : tie.Need-overflow-sub-if1
 sub-if1 c = search rules
 
-add-fault : tie.Need-overflow-add-fault
-add-fault c = search rules
-
-fault-requires : tie.Need-fault-requires
-fault-requires c κs = search rules
+add-t14 : tie.Need-overflow-add-t14
+add-t14 c = search rules
 
 returns : tie.Need-returns
 returns c =
-    let the-args = c.before.before.before.args in
-    let fault· = c.fault in
-    let if1· = c.before.if1 in
-    subst (λ (x : Reading). ParseSays the-args.text.now x (parsed.Refused fault·.result) the-args.codes.now the-args.out.now)
-    (sym (too_long the-args.text.now the-args.from (flags_in the-args.text.now the-args.codes.now the-args.flags) if1·.true))
-    (ap parsed.Refused fault·.ensures)
+    let the-args = c.before.before.args in
+    let if1· = c.if1 in
+    subst (λ (x : Reading). ParseSays the-args.text.now x (refused_with 1 (the-args.from + text_ceiling)) the-args.codes.now the-args.out.now)
+    (sym (too_long the-args.text.now the-args.from (flags_in the-args.text.now the-args.codes.now the-args.flags) if1·.true)) refl
 
 array-write-at : tie.Need-array-write-at
 array-write-at c = search rules
@@ -105,8 +102,7 @@ parse-from-spec =
     tie.close
     (tie.spec
     sub-if1
-    add-fault
-    fault-requires
+    add-t14
     returns
     array-write-at
     array-write-at-2

@@ -39,21 +39,17 @@ mul-len c =
     (guard-found the-args.text.now (reading the-args.text.now) parse·.result C O parse·.ensures parsed·.given.0.0 parsed·.given.1) in
     search (rules, h)
 
-fault-requires : tie.Need-fault-requires
-fault-requires c κs = search rules
-
 returns-2 : tie.Need-returns-2
 returns-2 c =
-    let parse· = c.before.before.before.before.before.before.parse in
-    let the-args = c.before.before.before.before.before.before.before.before.before.before.before.args in
-    let parsed· = c.before.before.before.before.parsed in
-    let if1· = c.before.if1 in
-    let fault· = c.fault in
+    let parse· = c.before.before.before.before.before.parse in
+    let the-args = c.before.before.before.before.before.before.before.before.before.before.args in
+    let parsed· = c.before.before.before.parsed in
+    let if1· = c.if1 in
     let C = parse·.new.1.0 in
     let O = parse·.new.1.1.0 in
     read_small the-args.text.now the-args.room.now parsed·.given.0.0 C O
     (guard-found the-args.text.now (reading the-args.text.now) parse·.result C O parse·.ensures parsed·.given.0.0
-    parsed·.given.1) (omega (arith, if1·.true)) fault·.result fault·.ensures
+    parsed·.given.1) (omega (arith, if1·.true))
 
 slice-aggregate-copy : tie.Need-slice-aggregate-copy
 slice-aggregate-copy c =
@@ -99,7 +95,6 @@ read_spec =
     enum_told
     returns
     mul-len
-    fault-requires
     returns-2
     slice-aggregate-copy
     copy-requires

@@ -5,10 +5,9 @@ use mathlib.Core.Path.{◌≡◌, ◌∙◌}
 use native.Mathlib.Omega.{arith}
 use lib.Pow.{pow_pos}
 use borrow.Author.Rules.{rules}
-use Rattle.notation.specs.Ceilings.{connective_ceiling}
 use Rattle.gaps.proofs.Written.{writes-room}
 use Rattle.search.proofs.Walks.{walked-before, walked-true, walked-left, triplets-left, walked_both, walked_stop, stretch-lower, stretch-upper}
-use Rattle.search.proofs.Walks.{half-lower, half-upper, shifted, rows-again, rows-fewer}
+use Rattle.search.proofs.Walks.{half-lower, half-upper, shifted, rows-again}
 use Prim.Native.Nat.{ℕ, ◌<◌}
 use borrow.Fn.Kinds.{In}
 use borrow.Fn.PlainCycle.{Measures, is, falls, and}
@@ -134,12 +133,8 @@ side-returns-3 t c =
 walk-block-requires : (t : ℕ) → walk-lts.Need-block-requires (walk-in t) (walk_at t) walk.Post
 walk-block-requires t c κs =
     let pre· = c.before.before.before.before.before.before.before.requires in
-    let if1· = c.before.before.if1 in (
-      pre·.1.0.0,
-      rows-fewer _ connective_ceiling _ _ _ pre·.1.0.0.count.0 (rw if1·.true pre·.1.0.1),
-      pre·.1.0.2,
-      pre·.1.0.3,
-    )
+    let if1· = c.before.before.if1 in
+    (pre·.1.0.0, rw if1·.true pre·.1.0.1, pre·.1.0.2, pre·.1.0.3)
 
 walk-same-length : (t : ℕ) → walk-lts.Need-same-length (walk-in t) (walk_at t) walk.Post
 walk-same-length t c =
@@ -244,7 +239,7 @@ walk-side-requires-2 t c κs =
       (
         (
           rw (before-it the-args.n the-args.low pre·.1.1.0 if1·.false) pre·.1.0.0,
-          rows-again _ _ _ _ _ pre·.1.0.1
+          rows-again _ _ _ _ pre·.1.0.1
               side·.auto.1.1.1.1.1.1.0 side·.ensures.right,
           stretch-upper _ _ _ _ _
               (before-it the-args.n the-args.low pre·.1.1.0 if1·.false) (shifted (the-args.n - 1) (omega arith)) pre·.1.0.2,

@@ -11,7 +11,7 @@ evaluate-requires : tie.Need-evaluate-requires
 evaluate-requires c κs =
     let pre· = c.before.before.before.before.requires in
     let the-args = c.before.before.before.before.args in (
-      (pre·.0.flags, pre·.0.count.0, pre·.0.count.1, pre·.1.long),
+      (pre·.0.flags, pre·.0.count.0, pre·.0.count.1, le_trans (mul-le-mul_right the-args.width (omega arith)) pre·.1.long),
       (pre·.0.shape, pre·.1.right),
     )
 
