@@ -5,7 +5,7 @@ ghost use Rattle.covercheck.specs.clauses.Calls.{MovedSays};
 use crate::pause::pause;
 
 // How many bytes were moved, or that the call failed.
-#[derive(Drop)]
+#[derive(Clone, Copy)]
 pub enum Moved {
     Bytes(usize),
     Failed,

@@ -5,7 +5,7 @@ ghost use Rattle.covercheck.specs.clauses.Calls.{InputSays};
 use crate::calls::{Moved, read_some};
 
 // The input ended after so many bytes; it filled the slice before it ended; or a read failed.
-#[derive(Drop)]
+#[derive(Clone, Copy)]
 pub enum Input {
     Ended(usize),
     Over,

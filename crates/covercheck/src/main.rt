@@ -1,4 +1,6 @@
 // Reads lines of a depth and a guard from standard input, and prints the answer to each.
+#![tactic(auto)]
+
 mod calls;
 mod input;
 mod output;
@@ -18,7 +20,7 @@ use output::write_whole;
 const INPUT: usize = 65536;
 
 // How many lines were answered: all of them, or those before the first whose answer was lost.
-#[derive(Drop)]
+#[derive(Clone, Copy)]
 enum Ending {
     All(u64),
     Lost(u64),

@@ -1,4 +1,6 @@
 // Evaluates the guard of a text in a state.
+#![tactic(auto)]
+
 ghost use Rattle.std.specs.Prelude.{◌≡◌};
 ghost use Rattle.notation.specs.Reading.{reading};
 ghost use Rattle.evaluate.specs.Evaluated.{evaluated};
@@ -10,7 +12,7 @@ use truth::states::is_state;
 use truth::values::root_value;
 
 // The value of a guard, or why the text or the state is refused.
-#[derive(Drop)]
+#[derive(Clone, Copy)]
 pub enum Evaluation {
     Value(bool),
     Refused(Refusal),

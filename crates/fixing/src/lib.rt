@@ -1,4 +1,6 @@
 // Fixes the first flag of a guard's triplets: what becomes constant, or another's equal, goes.
+#![tactic(auto)]
+
 ghost use Rattle.std.specs.Prelude.{◌≡◌, suc, ◌+◌, ◌*◌, ◌^◌, ◌≤◌, ◌<◌, length};
 ghost use Rattle.ground.specs.Choice.{choose};
 ghost use Rattle.notation.specs.Ceilings.{flag_ceiling, connective_ceiling};
@@ -9,7 +11,7 @@ ghost use Rattle.fixing.specs.clauses.Fixing.{Simplified, Put, StartedBy, Operan
 use notation::ceilings::FLAGS;
 
 // How many triplets are left, and what became of the root.
-#[derive(Drop)]
+#[derive(Clone, Copy)]
 pub struct Left {
     pub count: usize,
     pub root: u16,

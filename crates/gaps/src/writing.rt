@@ -10,7 +10,7 @@ ghost use Rattle.gaps.specs.clauses.Rows.{Writes, since, LiveWord, words_of};
 use rows::{ONES, WORD_BITS, WORD_FLAGS, turn};
 
 // What became of the states: all were written, and how many stand in the slice; or the slice is full, and which is the next.
-#[derive(Drop)]
+#[derive(Clone, Copy)]
 pub enum Found {
     Done(usize),
     More { written: usize, next: u64 },

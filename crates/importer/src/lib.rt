@@ -1,4 +1,6 @@
 // The C side: entries over the bytes of a text, each answering one packed number. include/trestulan.h declares them.
+#![tactic(auto)]
+
 pub mod packing;
 
 ghost use Rattle.std.specs.Prelude.{◌≡◌};

@@ -1,5 +1,7 @@
 // The reader: one function for each level of the notation, from loosest to tightest. They call each other in a cycle, measured by the
 // text that is left.
+#![tactic(auto)]
+
 ghost use Rattle.std.specs.Prelude.{◌≡◌, false, ◌+◌, get_or};
 ghost use Rattle.notation.specs.Tokens.{and, or, implies, same};
 ghost use Rattle.notation.specs.clauses.Cut.{sign_of};

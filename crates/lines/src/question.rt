@@ -3,7 +3,7 @@ ghost use Rattle.std.specs.Prelude.{◌≡◌, ◌≤◌};
 ghost use Rattle.lines.specs.Question.{byte_at, is_digit, digit_value, question};
 
 // A depth, and where the guard starts in the line.
-#[derive(Drop)]
+#[derive(Clone, Copy)]
 pub enum Question {
     Malformed,
     Asks { depth: u64, start: usize },

@@ -1,4 +1,6 @@
 // The service list: the gaps of a text, in ascending order.
+#![tactic(auto)]
+
 ghost use Rattle.list.specs.Listed.{Lists};
 
 use gaps::writing::Found;
@@ -9,7 +11,7 @@ use search::search;
 use truth::states::is_state;
 
 // The gaps that were found, or why the text or the start is refused.
-#[derive(Drop)]
+#[derive(Clone, Copy)]
 pub enum Listing {
     Gaps(Found),
     Refused(Refusal),

@@ -26,7 +26,7 @@ pub const NUMBER: usize = 6;
 pub const WAITING: usize = 7;
 
 // A two-sided connective: `=`, `>`, `|`, `&`.
-#[derive(Drop)]
+#[derive(Clone, Copy)]
 pub enum Connective {
     Same,
     Implies,
@@ -35,7 +35,7 @@ pub enum Connective {
 }
 
 // What a token is. The bytes of a code are those of its place in the text.
-#[derive(Drop)]
+#[derive(Clone, Copy)]
 pub enum Kind {
     End,
     Code,
@@ -47,7 +47,7 @@ pub enum Kind {
 }
 
 // Whether the reader came past a token. A refusal's number and place stand in the lent place.
-#[derive(Drop)]
+#[derive(Clone, Copy)]
 pub enum Step {
     Taken,
     Refused,

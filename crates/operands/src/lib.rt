@@ -1,5 +1,7 @@
 // What the reader's levels stand on: steps past a token, the operands that are no guard in brackets, and two operands joined. Each goes
 // over the lent place where the reader stands.
+#![tactic(auto)]
+
 ghost use Rattle.std.specs.Prelude.{◌≡◌, true, false, ◌+◌, ◌-◌, ◌*◌, ◌≤◌, ◌<◌, length, get_or};
 ghost use Rattle.notation.specs.clauses.Cut.{ends, sign_of};
 ghost use Rattle.notation.specs.Ceilings.{connective_ceiling, flag_ceiling};
@@ -17,7 +19,7 @@ use notation::tokens::token_at;
 use notation::{codes, triplets};
 
 // What a level answers: the literal of the operand that it read. A refusal's number and place stand in the lent place.
-#[derive(Drop)]
+#[derive(Clone, Copy)]
 pub enum Answer {
     Found(u16),
     Refused,

@@ -9,7 +9,7 @@ use notation::ceilings::{CODES_ROOM, TRIPLETS_ROOM};
 use notation::refusal::Refusal;
 
 // The part of a text that is a flag's code, by its first byte and length.
-#[derive(Drop)]
+#[derive(Clone, Copy)]
 pub enum Named {
     Part { start: usize, len: usize },
     Refused(Refusal),

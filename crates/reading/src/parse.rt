@@ -16,14 +16,14 @@ use notation::tokens::token_at;
 use operands::Answer;
 
 // The numbers of a guard's flags and triplets, and its root literal.
-#[derive(Drop)]
+#[derive(Clone, Copy)]
 pub struct Guard {
     pub flags: usize,
     pub count: usize,
     pub root: u16,
 }
 
-#[derive(Drop)]
+#[derive(Clone, Copy)]
 pub enum Parsed {
     Guard(Guard),
     Refused(Refusal),

@@ -10,7 +10,7 @@ ghost use Rattle.relation.specs.clauses.Keeping.{Fresh, Led, Lower, tied};
 use notation::ceilings::VARIABLES;
 
 // Each variable with the literal of the lowest variable of its class.
-#[derive(Drop)]
+#[derive(Clone, Copy)]
 pub struct Relation {
     pub of: [u16; VARIABLES],
 }

@@ -1,4 +1,6 @@
 // The values of variables in many states at once: 64 states to a word, a row of words to a variable.
+#![tactic(auto)]
+
 ghost use Rattle.std.specs.Prelude.{◌≡◌, suc, ◌+◌, ◌*◌, ◌-◌, ◌/◌, ◌^◌, ◌≤◌, ◌<◌, length};
 ghost use Rattle.std.specs.Int.Bits.{bit_or, bit_xor};
 ghost use Rattle.notation.specs.Ceilings.{flag_ceiling, connective_ceiling};

@@ -2,7 +2,7 @@
 use notation::refusal::Refusal;
 
 // The state of a gap has the first flag as its highest bit.
-#[derive(Drop)]
+#[derive(Clone, Copy)]
 pub enum Verdict {
     Covered,
     Gap(u64),

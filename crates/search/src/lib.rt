@@ -1,4 +1,6 @@
 // Finds the gaps of triplets: rows of words as wide as the flags need, and then the walk.
+#![tactic(auto)]
+
 pub mod walk;
 
 ghost use Rattle.std.specs.Prelude.{suc, ◌+◌, ◌*◌, ◌^◌, ◌-◌, ◌≤◌, length};

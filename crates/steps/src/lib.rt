@@ -1,4 +1,6 @@
 // The step table: what a step on a triplet makes of what is known of x, y and z.
+#![tactic(auto)]
+
 pub mod rest;
 pub mod step;
 pub mod table;

@@ -1,4 +1,6 @@
 // The outline's examples, run. The file stdout holds what must come out, one example a line.
+#![tactic(auto)]
+
 mod show;
 
 use show::{checking, evaluating, listing, naming, reading, reading_into, reading_of};

@@ -1,4 +1,6 @@
 // Rest beside a naive reference that shares no code with it, on random lists of triplets, each in several orders.
+#![tactic(auto)]
+
 mod compare;
 mod draw;
 mod lists;

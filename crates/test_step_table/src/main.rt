@@ -1,4 +1,5 @@
 // Prints the step table, one number a line, kind 0 first: tests/step_table.py prints what it must be.
+#![tactic(auto)]
 
 // One number and a line feed, with no zero before its first digit.
 fn print(n: u8) {

@@ -1,3 +1,5 @@
 // What a guard means.
+#![tactic(auto)]
+
 pub mod states;
 pub mod values;
