@@ -4,7 +4,7 @@ use native.Mathlib.Numerals.{add-one}
 use native.Mathlib.Omega.{arith}
 use mathlib.Core.Path.{◌≡◌, refl, sym, ap, ◌∙◌}
 use mathlib.Core.Bool.{true, false, true≢false}
-use mathlib.Core.List.{List, ◌∷◌, []}
+use mathlib.Core.List.{List}
 use lib.ListN.{length, get_or, set}
 use lib.Dec.{eqb}
 use borrow.Author.Tests.{le-leb, lt-leb}
