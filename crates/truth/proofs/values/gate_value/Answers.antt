@@ -3,8 +3,7 @@ use Prim.Native.Nat.{ℕ, zero, suc}
 use mathlib.Core.Path.{◌≡◌, refl}
 use mathlib.Core.Bool.{Bool, true, false, not, ◌||◌, beq}
 use Rattle.truth.specs.Connectives.{table, gate}
-use Rattle.truth.proofs.values.gate_value.Statement.{statement}
-use Rattle.truth.proofs.values.gate_value.Tie as tie
+use Rattle.truth.proofs.values.gate_value.Goals as goal
 
 by-implies : (k : ℕ) (y z : Bool) → k ≡ 0 → (not y || z) ≡ gate k y z
 unfolding gate table
@@ -19,17 +18,10 @@ by-same (suc k) true false n = refl
 by-same (suc k) false true n = refl
 by-same (suc k) false false n = refl
 
-returns : tie.Need-returns
+pub returns-then-kind-eq0 : goal.returns-then-kind-eq0
+returns-then-kind-eq0 c =
+    by-implies c.args.kind c.args.y c.args.z c.if-kind-eq0.true
+
+pub returns : goal.returns
 returns c =
-    let the-args = c.before.args in
-    let if1· = c.if1 in
-    by-implies the-args.kind the-args.y the-args.z if1·.true
-
-returns-2 : tie.Need-returns-2
-returns-2 c =
-    let the-args = c.before.args in
-    let if1· = c.if1 in
-    by-same the-args.kind the-args.y the-args.z if1·.false
-
-pub gate-value-spec : {M : Type 1} → statement M
-gate-value-spec = tie.close (tie.spec returns returns-2)
+    by-same c.args.kind c.args.y c.args.z c.if-kind-eq0.false
