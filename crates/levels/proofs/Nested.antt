@@ -7,7 +7,7 @@ use mathlib.Core.List.{List, ◌++◌, append-nil}
 use lib.ListN.{length, take, get_or}
 use Rattle.notation.specs.Ceilings.{bracket_ceiling}
 use Rattle.notation.specs.Tokens.{same}
-use Rattle.notation.specs.Walk.{walk, refused, operand, after}
+use Rattle.notation.specs.Walk.{walk, refused, operand}
 use Rattle.notation.specs.Grammar.{in_brackets, left_level, same_of, implies_of, or_of, and_of}
 use Rattle.notation.specs.Triplets.{Triplet, numbers}
 use Rattle.notation.specs.clauses.Writing.{signed}
@@ -33,7 +33,7 @@ use Rattle.operands.specs.declared.Answer.{Answer}
 use Rattle.operands.specs.declared.Answer.TheVariants as answer
 use Rattle.operands.proofs.Operands.{no_operand, no-tighter, opens}
 use Rattle.operands.proofs.Stepping.{stops-joins}
-use Rattle.levels.specs.clauses.Levels.{plain, operands_at, below_of, part, FoundPart, Rooms, Asks, Still, Says}
+use Rattle.levels.specs.clauses.Levels.{plain, operands_at, below_of, part, FoundPart, Rooms, Asks, Says}
 use Rattle.levels.proofs.Nesting.{
   bracket-refused,
   bracket-walked,

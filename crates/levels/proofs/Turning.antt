@@ -1,5 +1,5 @@
 -- A chain of operands over a lent place: what a level's loop holds, and one turn of it.
-use Prim.Native.Nat.{ℕ, ◌+◌, ◌-◌, ◌*◌, ◌≤◌, ◌<◌}
+use Prim.Native.Nat.{ℕ, ◌+◌, ◌≤◌, ◌<◌}
 use native.Mathlib.Omega.{arith}
 use mathlib.Core.Path.{◌≡◌, refl, sym, ap, subst, ◌∙◌}
 use mathlib.Core.Bool.{true, false}
@@ -9,11 +9,10 @@ use Rattle.notation.specs.Ceilings.{connective_ceiling, bracket_ceiling}
 use Rattle.notation.specs.Tokens.{Sign, same, implies, or, and}
 use Rattle.notation.specs.Walk.{walk, refused, operand}
 use Rattle.notation.specs.Grammar.{Level, left_level}
-use Rattle.notation.specs.Triplets.{triplet_of, literal_ceiling}
-use Rattle.notation.specs.clauses.Writing.{triplet_at}
+use Rattle.notation.specs.Triplets.{literal_ceiling}
 use Rattle.notation.specs.clauses.Cut.{ahead}
 use Rattle.notation.specs.clauses.Codes.{flags_in}
-use Rattle.notation.specs.clauses.Place.{place_room, kind_of, token_in, refusal_in}
+use Rattle.notation.specs.clauses.Place.{kind_of, token_in, refusal_in}
 use Rattle.notation.specs.declared.place.Step.{Step}
 use Rattle.notation.specs.declared.place.Step.TheVariants as step
 use Rattle.operands.specs.clauses.Steps.{Part, binding, kind_is, joins, joined_part, place, waiting, TokenFits, PastSignSays, JoinedSays}

@@ -2,11 +2,11 @@
 use Prim.Native.Nat.{ℕ, zero, suc, ◌+◌, ◌-◌, ◌*◌, ◌≤◌, ◌<◌}
 use native.Mathlib.Omega.{arith}
 use mathlib.Core.Path.{◌≡◌, refl, sym, ap, subst, ◌∙◌}
-use mathlib.Core.Bool.{true, false}
+use mathlib.Core.Bool.{false}
 use mathlib.Core.List.{List, [], ◌∷◌}
 use lib.ListN.{length, get_or}
 use Rattle.notation.specs.Ceilings.{connective_ceiling, bracket_ceiling}
-use Rattle.notation.specs.Tokens.{Sign, implies}
+use Rattle.notation.specs.Tokens.{Sign}
 use Rattle.notation.specs.Walk.{walk, refused, operand}
 use Rattle.notation.specs.Grammar.{to_the_right}
 use Rattle.notation.specs.Triplets.{triplet_of, literal_ceiling}

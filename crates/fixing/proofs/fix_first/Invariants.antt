@@ -1,0 +1,18 @@
+-- `fixing::fix_first` meets its contract: what became of the first j triplets has their values.
+use Prim.Native.Nat.{◌-◌, ◌≤◌}
+use mathlib.Core.Path.{◌≡◌, refl, ◌∙◌}
+use native.Mathlib.Omega.{arith}
+use native.Mathlib.Numerals.{add-one}
+use lib.ListN.{length, get_or}
+use Rattle.fixing.specs.clauses.Fixing.{Fixing}
+use Rattle.truth.proofs.Computing.{named-below}
+use Rattle.fixing.proofs.Fixes.{fixing-start, fixing-done}
+use Rattle.fixing.proofs.Standing.{started, fixing-again, operand_below}
+use Rattle.fixing.proofs.fix_first.Given as goal
+
+abbrev pub invariant-loop-j : goal.invariant-loop-j
+invariant-loop-j l = Fixing l.n l.b l.xs l.j (λ v. get_or l.to v 0) l.c l.ys × (length l.to ≡ length l.initial.to)
+    × (length l.ys ≡ length l.initial.ys) × (l.j ≤ l.count)
+
+abbrev pub decreases-loop-j : goal.decreases-loop-j
+decreases-loop-j l = l.count - l.j
