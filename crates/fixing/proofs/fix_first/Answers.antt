@@ -18,8 +18,8 @@ loop-j-preserved c =
     (
       rw add-one (fixing-again _ _ _ _ _ _ _ _ _ _ c.requires.n_lt_flag_ceiling.0 c.loop-j.invariant.0 (c.requires.shape.0.ys _ c.loop-j-test.true)
           (c.requires.shape.0.zs _ c.loop-j-test.true) (c.requires.shape.0.kinds _ c.loop-j-test.true) c.fix_triplet-c.ensures),
-      c.fix_triplet-c.auto.1.1.0
+      c.fix_triplet-c.auto.ys.1.0
           ∙ c.loop-j.invariant.1,
-      c.fix_triplet-c.auto.1.1.1.0 ∙ c.loop-j.invariant.2,
+      c.fix_triplet-c.auto.ys.1.1.0 ∙ c.loop-j.invariant.2,
       omega arith,
     )
