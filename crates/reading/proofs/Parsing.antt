@@ -16,18 +16,17 @@ use Rattle.notation.specs.Grammar.{tree, tree_of, left_level, same_of, implies_o
 use Rattle.notation.specs.Triplets.{literal, triplets, numbers}
 use Rattle.notation.specs.Reading.{Reading, refusal, guard, judged, reading, tree_from, reading_from}
 use Rattle.notation.specs.Tokens as words
-use Rattle.notation.specs.clauses.Cut.{ahead_as, ahead, ends, FaultyHere}
+use Rattle.notation.specs.clauses.Cut.{ahead_as, ahead, ends}
 use Rattle.notation.specs.clauses.Codes.{codes_room, flags_in, InText}
 use Rattle.notation.specs.clauses.Place.{place_room, kind_of, token_in, refusal_in, CutSays}
-use Rattle.notation.specs.declared.refusal.Refusal.{Refusal}
 use Rattle.notation.specs.declared.place.Kind.{Kind}
 use Rattle.notation.specs.declared.place.Kind.TheVariants as kind
 use Rattle.notation.specs.declared.place.Step.{Step}
 use Rattle.notation.specs.declared.place.Step.TheVariants as step
-use Rattle.operands.specs.clauses.Steps.{joins, place, waiting}
+use Rattle.operands.specs.clauses.Steps.{joins, place}
 use Rattle.operands.specs.declared.Answer.{Answer}
 use Rattle.operands.specs.declared.Answer.TheVariants as answer
-use Rattle.levels.specs.clauses.Levels.{plain, operands_at, below_of, part, FoundPart, Rooms, Asks, Says}
+use Rattle.levels.specs.clauses.Levels.{plain, operands_at, below_of, part, FoundPart, Asks, Says}
 use Rattle.reading.specs.Service.{refused_with, guard_with}
 use Rattle.reading.specs.clauses.Parsing.{ended_as, ParseSays}
 use Rattle.reading.specs.declared.parse.Parsed.{Parsed}

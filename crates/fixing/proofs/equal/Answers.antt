@@ -1,7 +1,6 @@
 -- `fixing::equal` meets its contract: each test is a line of the truth table.
-use mathlib.Core.Path.{refl, ◌∙◌}
-use mathlib.Core.Logic.{inl, inr}
-use borrow.Author.Rules.{rules}
+use mathlib.Core.Path.{◌∙◌}
+use mathlib.Core.Logic.{inr}
 use Rattle.fixing.proofs.Standing.{same-y-true, same-y-false, same-z-true, same-z-false, same-equal, same-opposed}
 use Rattle.fixing.proofs.equal.Goals as goal
 

@@ -1,13 +1,8 @@
 -- `fixing::fix_first` meets its contract: what became of the first j triplets has their values.
 use Prim.Native.Nat.{◌-◌, ◌≤◌}
-use mathlib.Core.Path.{◌≡◌, refl, ◌∙◌}
-use native.Mathlib.Omega.{arith}
-use native.Mathlib.Numerals.{add-one}
+use mathlib.Core.Path.{◌≡◌}
 use lib.ListN.{length, get_or}
 use Rattle.fixing.specs.clauses.Fixing.{Fixing}
-use Rattle.truth.proofs.Computing.{named-below}
-use Rattle.fixing.proofs.Fixes.{fixing-start, fixing-done}
-use Rattle.fixing.proofs.Standing.{started, fixing-again, operand_below}
 use Rattle.fixing.proofs.fix_first.Given as goal
 
 abbrev pub invariant-loop-j : goal.invariant-loop-j

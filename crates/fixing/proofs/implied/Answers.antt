@@ -1,7 +1,6 @@
 -- `fixing::implied` meets its contract: each test is a line of the truth table.
-use mathlib.Core.Path.{refl, ◌∙◌}
-use mathlib.Core.Logic.{inl, inr}
-use borrow.Author.Rules.{rules}
+use mathlib.Core.Path.{◌∙◌}
+use mathlib.Core.Logic.{inr}
 use Rattle.fixing.proofs.Standing.{implies-y-true, implies-y-false, implies-z-true, implies-z-false, implies-equal, implies-opposed}
 use Rattle.fixing.proofs.implied.Goals as goal
 

@@ -1,7 +1,6 @@
 -- `fixing::negated` meets its contract: the sum is the definition's.
 use Prim.Native.Nat.{ℕ, ◌+◌, ◌*◌, ◌/◌, ◌%◌}
 use mathlib.Core.Path.{◌≡◌, refl}
-use borrow.Author.Rules.{rules}
 use Rattle.notation.specs.Triplets.{negation}
 use Rattle.fixing.proofs.negated.Goals as goal
 

@@ -1,10 +1,6 @@
 -- `fixing::start` meets its contract: four stores, and then the flags below l are one less.
 use Prim.Native.Nat.{◌+◌, ◌*◌, ◌-◌, ◌≤◌}
-use mathlib.Core.Path.{refl, ◌∙◌}
-use native.Mathlib.Omega.{arith}
-use lib.ListN.{length-set}
 use Rattle.fixing.specs.clauses.Fixing.{StartedBy}
-use Rattle.fixing.proofs.Standing.{filled-four, filled_more, started-by}
 use Rattle.fixing.proofs.start.Given as goal
 
 abbrev pub invariant-loop-l : goal.invariant-loop-l
