@@ -19,12 +19,12 @@ use Rattle.text_laws.proofs.Found.{is_read}
 use Rattle.text_laws.proofs.Flags.{Own, own_in}
 use Rattle.text_laws.proofs.Standing.{text-spelt, Ascending, text-ascending, First, firsts}
 
-name_in : (u : List Flag) (i : ℕ) (f : Flag) → IsFlag i f u → name_in u i ≡ named.Part f.place (length f.name)
+name_in_lem : (u : List Flag) (i : ℕ) (f : Flag) → IsFlag i f u → name_in u i ≡ named.Part f.place (length f.name)
 unfolding name_in
-name_in [] i f e = absurd e
-name_in (g ∷ u) zero f e = absurd e
-name_in (g ∷ u) (suc zero) f e = ap (λ (h : Flag). named.Part h.place (length h.name)) (sym e)
-name_in (g ∷ u) (suc (suc i)) f e = name_in u (suc i) f e
+name_in_lem [] i f e = absurd e
+name_in_lem (g ∷ u) zero f e = absurd e
+name_in_lem (g ∷ u) (suc zero) f e = ap (λ (h : Flag). named.Part h.place (length h.name)) (sym e)
+name_in_lem (g ∷ u) (suc (suc i)) f e = name_in_lem u (suc i) f e
 
 -- the place of each flag of a text is where its code first stands
 first-in : (ts : Tokens) (i : ℕ) (f : Flag) → Ascending ts → IsFlag i f (seen_in [] ts) → First f ts
@@ -46,7 +46,7 @@ module _ (text : List ℕ) (g : Guard) (u : List Flag) (read : reading text ≡ 
     pub name-is-code : (name_answer (reading text) i ≡ named.Part f.place (length f.name)) × (part_of text (name_answer (reading text) i) ≡ f.name)
     unfolding name_answer
     name-is-code =
-        let part : name_answer (reading text) i ≡ named.Part f.place (length f.name) = ap (λ (r : Reading). name_answer r i) read ∙ name_in u i f is in
+        let part : name_answer (reading text) i ≡ named.Part f.place (length f.name) = ap (λ (r : Reading). name_answer r i) read ∙ name_in_lem u i f is in
         let there : (take (length f.name) (drop f.place text) ≡ f.name) × (f.place + length f.name ≤ length text) =
         text-spelt text f.place f.name name-first.0 in
         let long : f.place + length f.name - f.place ≡ length f.name = omega arith in
