@@ -13,12 +13,12 @@ pub enum Input {
 }
 
 // Reads until the input ends or the slice is full.
-pub fn read_whole(into: &mut [u8]) -> Input
+pub fn read_whole(rt: &HostRuntime, into: &mut [u8]) -> Input
     ensures { InputSays (length into.old) result }
 {
     let mut done = 0;
     while done < into.len() {
-        let moved = read_some(0, &mut into[done..]);
+        let moved = read_some(rt, &mut into[done..]);
         let Moved::Bytes(more) = moved else {
             return Input::Failed;
         };

@@ -15,6 +15,8 @@ use input::{Input, read_whole};
 use lines::answer::{ANSWER, answer_line};
 use lines::cut::line_end;
 use output::write_whole;
+use std::env::{Env, FillError};
+use std::io;
 
 // Bytes of an input.
 const INPUT: usize = 65536;
@@ -27,16 +29,16 @@ enum Ending {
 }
 
 // Writes the answer to a line of the input, and says whether all of it was taken.
-fn answer(input: &[u8], number: u64, start: usize, end: usize) -> bool
+fn answer(rt: &HostRuntime, input: &[u8], number: u64, start: usize, end: usize) -> bool
     requires { LineAt input.now number start end }
 {
     let mut out = [0u8; ANSWER];
     let len = answer_line(number, &input[start..end], &mut out);
-    write_whole(&out[0..len])
+    write_whole(rt, &out[0..len])
 }
 
 // Each answer is written before the next line is looked at.
-fn answer_all(input: &[u8]) -> Ending
+fn answer_all(rt: &HostRuntime, input: &[u8]) -> Ending
     requires { length input.now ≤ input_ceiling }
     ensures { EndingSays input.now result }
 {
@@ -44,7 +46,7 @@ fn answer_all(input: &[u8]) -> Ending
     let mut number: u64 = 0;
     while start < input.len() {
         let end = line_end(input, start);
-        if !answer(input, number + 1, start, end) {
+        if !answer(rt, input, number + 1, start, end) {
             return Ending::Lost(number);
         }
         number += 1;
@@ -53,36 +55,39 @@ fn answer_all(input: &[u8]) -> Ending
     Ending::All(number)
 }
 
-// The answers to a whole input.
-fn answer_input(input: &[u8])
+// The answers to a whole input. Where one is lost, it was told as it was.
+fn answer_input(rt: &HostRuntime, input: &[u8])
     requires { length input.now ≤ input_ceiling }
 {
-    let ending = answer_all(input);
-    let Ending::All(_) = ending else {
-        os::fail(b"covercheck: the answers are not complete");
-        return;
-    };
+    answer_all(rt, input);
 }
 
 // The one line for an input over the ceiling.
-fn refuse_input(input: &[u8])
+fn refuse_input(rt: &HostRuntime, input: &[u8])
     requires { input_ceiling < length input.now }
 {
-    if !write_whole(b"input too long\n") {
-        os::fail(b"covercheck: the answers are not complete");
+    write_whole(rt, b"input too long\n");
+}
+
+// Whether there is an argument beside the program's own name.
+fn has_argument(rt: &HostRuntime) -> bool {
+    let mut start = [0u8; 1];
+    match rt.arg(1, &mut start) {
+        Err(FillError::NotPresent) => false,
+        _ => true,
     }
 }
 
-fn main() {
-    if 1 < os::arg_count() {
-        io::write_all(2, b"usage: covercheck < guards.txt\n");
-        return;
+fn main(rt: HostRuntime) -> io::Result<()> {
+    if has_argument(&rt) {
+        return eprintln!(rt; "usage: covercheck < guards.txt");
     }
     let mut input = [0u8; INPUT + 1];
-    let read = read_whole(&mut input);
+    let read = read_whole(&rt, &mut input);
     match read {
-        Input::Failed => os::fail(b"covercheck: the input cannot be read"),
-        Input::Over => refuse_input(&input),
-        Input::Ended(len) => answer_input(&input[0..len]),
+        Input::Failed => {}
+        Input::Over => refuse_input(&rt, &input),
+        Input::Ended(len) => answer_input(&rt, &input[0..len]),
     }
+    Ok(())
 }

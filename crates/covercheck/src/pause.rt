@@ -1,18 +1,11 @@
 // A short wait, for a call of the operating system that would block.
-use libc::types::timespec;
+use std::thread::sleep;
+use std::time::Duration;
 
 // How long the wait is, in nanoseconds: a millisecond.
-const PAUSE: i64 = 1000000;
+const PAUSE: u64 = 1000000;
 
-// Waits so long, or until a signal comes.
-pub fn pause() {
-    let asked = timespec {
-        tv_sec: 0,
-        tv_nsec: PAUSE,
-    };
-    let mut left = timespec {
-        tv_sec: 0,
-        tv_nsec: 0,
-    };
-    libc::nanosleep(&asked, &mut left);
+// Waits so long.
+pub fn pause(rt: &HostRuntime) {
+    sleep(rt, Duration::from_nanos(PAUSE))
 }
