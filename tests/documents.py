@@ -4,6 +4,7 @@
 Each path; each edit that must be refused; each law and definition by its name, in the file named beside it or, where none is, in some crate;
 and the lines of the definitions that must be believed, which have ceilings.
 """
+import functools
 import glob
 import os
 import re
@@ -13,9 +14,10 @@ ROOT = os.path.join(os.path.dirname(os.path.abspath(__file__)), "..")
 PATH = re.compile(r"`([A-Za-z_.0-9*-]+(?:/[A-Za-z_.0-9+*-]+)+/?)`")
 EDIT = re.compile(r"(?:\(|[Ee]dits? |, |and )`([a-z0-9_]+)`\)|[Ee]dits?:? `([a-z0-9_]+)`")
 TELLING_EDITS = ("STATEMENTS.md", "MAP.md")
-LAW = re.compile(r"`([a-z_]+/(?:specs|proofs)/(?:contracts/)?[A-Za-z]+\.antt)`, `([A-Za-z-]+)`")
+LAW = re.compile(r"`([a-z_]+/(?:specs|proofs)/(?:clauses/)?[A-Za-z]+\.antt)`, `([A-Za-z-]+)`")
 # A name by itself is a law's or a definition's where it has a hyphen or a capital inside or first; with a module before it, it is of that module.
-NAME = re.compile(r"`(?:([A-Z][A-Za-z]+)\.)?([a-z]+(?:-[a-z0-9]+)+|[a-z]*[A-Z][A-Za-z]+|[a-z]+)`")
+# One with an underscore may be a function's, a file's or an edit's too.
+NAME = re.compile(r"`(?:([A-Z][A-Za-z]+)\.)?([a-z]+(?:[-_][A-Za-z0-9]+)+|[a-z]*[A-Z][A-Za-z]+|[a-z]+)`")
 COUNTED = re.compile(r"`([a-z_]+/specs/[A-Za-z]+\.antt)` (\d+)")
 BELIEVED = re.compile(r"^\| ([a-z]+) \| (?:those of ([a-z]+), )?([^|]*`[a-z_]+/specs/[^|]*) \| (\d+) \|$", re.M)
 CEILINGS = {"read": 300, "list": 300, "check": 400}
@@ -43,6 +45,15 @@ def declares(text, name):
     return re.search(DECLARED.format(re.escape(name)), text, re.M) is not None
 
 
+@functools.cache
+def plain_names():
+    """The names with an underscore that are no law's and no definition's: crates, files of tests, edits, and what sources in Rattle and C declare."""
+    code = [read(path) for base in ("crates/*/src/**/*.rt", "include/*.h", "tests/c/*.c", "examples/*.c")
+            for path in glob.glob(base, root_dir=ROOT, recursive=True)]
+    words = {word for text in code for word in re.findall(r"[a-z]\w*_\w+", text)}
+    return words | edits() | set(os.listdir(os.path.join(ROOT, "crates")))
+
+
 def laws_of(text, known):
     """Each law or definition that a document names, and whether it is declared where it should be."""
     for path, law in LAW.findall(text):
@@ -52,6 +63,8 @@ def laws_of(text, known):
             yield f"{module}.antt", any(path.endswith(f"/{module}.antt") for path in known)
         elif module:
             yield f"{module}.{name}", any(declares(source, name) for path, source in known.items() if path.endswith(f"/{module}.antt"))
+        elif "_" in name:
+            yield name, any(declares(source, name) for source in known.values()) or name in plain_names()
         elif not name.isalpha() or not name.islower():
             yield name, any(declares(source, name) for source in known.values())
 
@@ -64,7 +77,7 @@ def lines_of(path):
 
 def stands_on(path):
     """The files of definitions that one brings in by its use lines, the types that code declares apart."""
-    for crate, module in re.findall(r"^use Rattle·([a-z_]+)(?:·specs)?\.specs\.([A-Za-z.]+)", read(os.path.join("crates", path)), re.M):
+    for crate, module in re.findall(r"^use Rattle\.([a-z_]+)\.specs\.([A-Za-z.]+)", read(os.path.join("crates", path)), re.M):
         parts = [part for part in module.split(".") if part]
         found = (f"{crate}/specs/{'/'.join(parts[:end])}.antt" for end in range(len(parts), 0, -1))
         yield from [file for file in found if parts[0] != "declared" and there(file)][:1]
@@ -95,7 +108,8 @@ def main():
         text = read(where)
         wanted = [(f"path {path}", there(path)) for path in PATH.findall(text) if not path.startswith("target/")]
         if document in TELLING_EDITS:
-            wanted += [(f"edit {a or b}", (a or b) in known_edits) for a, b in EDIT.findall(text)]
+            # A law's name may stand where an edit's does.
+            wanted += [(f"edit {a or b}", (a or b) in known_edits or any(declares(s, a or b) for s in known.values())) for a, b in EDIT.findall(text)]
             wanted += laws_of(text, known)
         if document == "STATEMENTS.md":
             wanted += believed(text)
