@@ -1,11 +1,10 @@
 -- Where a field stands, and where none does.
-use Prim.Native.Nat.{ℕ, ◌+◌, ◌*◌, ◌≤◌, ◌<◌}
-use mathlib.Core.Path.{◌≡◌, refl, sym}
+use Prim.Native.Nat.{ℕ, ◌+◌, ◌≤◌, ◌<◌}
+use mathlib.Core.Path.{◌≡◌, sym}
 use mathlib.Core.List.{List}
 use lib.ListN.{length, get_or}
 use borrow.Author.Tests.{le-leb, lt-leb, lt-ltb, le-ltb}
 use Rattle.fields.specs.Fields.{header, field_at, length_at}
-use Rattle.fields.specs.declared.Field.{Field}
 use Rattle.fields.specs.declared.Field.TheVariants.{Whole, Cut, End}
 
 pub none-at : (file : List ℕ) (at : ℕ) → length file ≤ at → End ≡ field_at file at

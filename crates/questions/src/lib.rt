@@ -1,4 +1,6 @@
 // The questions that are put of a line, built of its guards.
+#![tactic(auto)]
+
 ghost use Rattle.questions.specs.clauses.Laying.{LayGuardAsks, LayGuardSays, PairAsks, PairLaid, OthersAsk, OthersLaid, WholeAsks, WholeLaid};
 
 use building::spans::{COUNT, ROOT, SPAN};
@@ -14,7 +16,7 @@ pub const VARIANTS: usize = 16;
 pub const SPANS_ROOM: usize = SPAN * (VARIANTS + 1);
 
 // A guard that has been laid: how many triplets stand then, and its literal.
-#[derive(Drop)]
+#[derive(Clone, Copy)]
 pub struct Built {
     pub count: usize,
     pub root: u16,

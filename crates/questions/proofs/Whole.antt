@@ -10,8 +10,9 @@ use Rattle.notation.specs.Ceilings.{connective_ceiling}
 use Rattle.notation.specs.Tokens.{implies}
 use Rattle.notation.specs.Guard.{Guard, truth, connectives}
 use Rattle.notation.specs.Triplets.{literal_ceiling, literal_of, triplet_variable, triplet_of}
-use Rattle.notation.specs.clauses.Writing.{triplet_at, Writes}
-use Rattle.notation.proofs.Written.{writes-joined}
+use Rattle.notation.specs.clauses.Writing.{triplet_at}
+use Rattle.levels.specs.clauses.Levels.{Writes}
+use Rattle.levels.proofs.Written.{writes-joined}
 use Rattle.questions.specs.Questions.{or_all, any_of, whole_of, sum_of, total_of}
 use Rattle.questions.specs.clauses.Laying.{LineHeld, Ready, Rooms, LayGuardAsks, LayGuardSays, Others, OthersAsk, OthersLaid, WholeAsks, WholeLaid}
 use Rattle.questions.specs.declared.Built.{Built}

@@ -8,8 +8,10 @@ use Rattle.notation.specs.Ceilings.{connective_ceiling}
 use Rattle.notation.specs.Tokens.{Sign, implies, and}
 use Rattle.notation.specs.Guard.{Guard, negated, joined, connectives}
 use Rattle.notation.specs.Triplets.{literal_ceiling, literal_of, triplet_variable, triplet_of, negation}
-use Rattle.notation.specs.clauses.Writing.{signed, triplet_at, Writes}
-use Rattle.notation.proofs.Written.{own-small, writes-negated, writes-joined}
+use Rattle.notation.specs.clauses.Writing.{signed, triplet_at}
+use Rattle.levels.specs.clauses.Levels.{Writes}
+use Rattle.questions.proofs.Written.{own-small, writes-negated}
+use Rattle.levels.proofs.Written.{writes-joined}
 use Rattle.questions.specs.Questions.{apart, guard_at}
 use Rattle.questions.specs.clauses.Laying.{LineHeld, Rooms, LayGuardAsks, LayGuardSays, PairAsks, PairLaid}
 use Rattle.questions.specs.declared.Built.{Built}

@@ -1,3 +1,4 @@
+pub mod Written
 pub mod Connectives
 pub mod Guards
 pub mod Pairs

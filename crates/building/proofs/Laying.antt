@@ -15,11 +15,16 @@ use Rattle.notation.specs.Triplets.{Triplet, triplet_variable, literal_ceiling, 
 use Rattle.notation.specs.clauses.Shape.{Names, Shape, kind_at, y_at, z_at}
 use Rattle.notation.proofs.Writing.{numbers-append}
 use Rattle.notation.proofs.Shaped.{shaped, root-named}
-use Rattle.notation.proofs.Accepted.{named_small}
-use Rattle.notation.specs.clauses.Writing.{put_at, Writes}
+use Rattle.notation.specs.clauses.Writing.{put_at}
+use Rattle.levels.specs.clauses.Levels.{Writes}
 use Rattle.building.specs.clauses.Held.{Held}
 use Rattle.building.specs.clauses.Moved.{moved, moved_all, CopyAsks, Copied, LayAsks, Laid}
 use Rattle.building.proofs.Moving.{stays, moves, literal-moved, triplets-moved, moved_all-append}
+
+-- a literal that the triplets of a guard within the ceilings name is at most the largest
+named_small : (n c l : ℕ) → n ≤ flag_ceiling → c ≤ connective_ceiling → Names n c l → l ≤ literal_ceiling
+named_small n c l a b =
+    ⊎_elim (λ (p : l / 2 ≤ n). omega arith) (λ (p : (triplet_variable 0 < l / 2) × (l / 2 ≤ triplet_variable c)). omega (arith, p.1))
 
 map-append : (f : ℕ → ℕ) (a b : List ℕ) → map f (a ++ b) ≡ map f a ++ map f b
 map-append f [] b = refl

@@ -1,4 +1,6 @@
 // Fields of a file: a one-byte tag, a two-byte length, high byte first, and a body of that many bytes. A function on the bytes and a place.
+#![tactic(auto)]
+
 ghost use Rattle.std.specs.Prelude.{◌≡◌};
 ghost use Rattle.fields.specs.Fields.{field_at};
 
@@ -6,7 +8,7 @@ ghost use Rattle.fields.specs.Fields.{field_at};
 pub const HEADER: usize = 3;
 
 // What stands at a place: a whole field, whose body goes from start up to end; one that is cut short; or nothing, at the end of the bytes.
-#[derive(Drop)]
+#[derive(Clone, Copy)]
 pub enum Field {
     Whole { tag: u8, start: usize, end: usize },
     Cut,

@@ -1,20 +1,18 @@
 -- The fields of a file, one after the other.
-use Prim.Native.Nat.{ℕ, zero, suc, ◌+◌, ◌*◌, ◌≤◌, ◌<◌}
+use Prim.Native.Nat.{ℕ, zero, suc, ◌+◌, ◌≤◌, ◌<◌}
 use native.Mathlib.Nat.{not-suc-le-zero, le_of_suc-le-suc, add-zero}
 use native.Mathlib.Omega.{arith}
-use mathlib.Core.Path.{◌≡◌, refl, sym, ap, ◌∙◌}
+use mathlib.Core.Path.{◌≡◌, refl, ap, ◌∙◌}
 use mathlib.Core.Bool.{Bool, true, false}
 use mathlib.Core.List.{List, [], ◌∷◌}
-use mathlib.Core.Logic.{◌⊎◌, inl, inr, ⊎_elim}
+use mathlib.Core.Logic.{⊎_elim}
 use lib.ListN.{length, get_or, drop, length-drop, drop_of_length-le}
 use lib.Seq.{drop-cons, drop-drop, get_or-drop}
 use lib.Dec.{leb}
 use borrow.Author.Tests.{le-leb, lt-leb, lt-ltb, le-ltb}
 use Rattle.ground.proofs.Cases.{lt-or-ge}
 use Rattle.fields.specs.Fields.{header, field_at, length_at, Pieces, end, short, field, said, pieces_from, pieces_at}
-use Rattle.fields.specs.clauses.Here.{FieldHere, FieldSays}
-use Rattle.fields.specs.declared.Field.{Field}
-use Rattle.fields.specs.declared.Field.TheVariants.{Whole, Cut, End}
+use Rattle.fields.specs.clauses.Here.{FieldSays}
 
 skip : (k p : ℕ) (bs : List ℕ) → k ≤ length bs → pieces_from p k bs ≡ pieces_from (p + k) 0 (drop k bs)
 unfolding pieces_from

@@ -1,4 +1,6 @@
 // Guards built of guards whose triplets stand in a pool.
+#![tactic(auto)]
+
 pub mod spans;
 
 ghost use Rattle.std.specs.Prelude.{◌≡◌, ◌+◌, ◌*◌, ◌≤◌, ◌<◌, length};

@@ -10,8 +10,10 @@ use Rattle.notation.specs.Ceilings.{connective_ceiling}
 use Rattle.notation.specs.Tokens.{or}
 use Rattle.notation.specs.Guard.{Guard, truth, joined, connectives}
 use Rattle.notation.specs.Triplets.{literal_ceiling, literal_of, triplet_variable, triplet_of}
-use Rattle.notation.specs.clauses.Writing.{triplet_at, Writes}
-use Rattle.notation.proofs.Written.{own-small, writes-joined}
+use Rattle.notation.specs.clauses.Writing.{triplet_at}
+use Rattle.levels.specs.clauses.Levels.{Writes}
+use Rattle.questions.proofs.Written.{own-small}
+use Rattle.levels.proofs.Written.{writes-joined}
 use Rattle.questions.specs.Questions.{or_all, sum_of}
 use Rattle.questions.specs.clauses.Laying.{Ready, LayGuardAsks, LayGuardSays, Others, OthersAsk, OthersLaid, Grown}
 use Rattle.questions.specs.declared.Built.{Built}

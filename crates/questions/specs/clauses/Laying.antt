@@ -3,7 +3,7 @@ use Rattle.std.specs.Prelude.{ℕ, ◌+◌, ◌*◌, ◌≤◌, ◌<◌, ◌≡�
 use Rattle.notation.specs.Ceilings.{flag_ceiling, connective_ceiling}
 use Rattle.notation.specs.Guard.{Guard, truth, connectives}
 use Rattle.notation.specs.Triplets.{literal_ceiling}
-use Rattle.notation.specs.clauses.Writing.{Writes}
+use Rattle.levels.specs.clauses.Levels.{Writes}
 use Rattle.building.specs.clauses.Held.{HeldAt}
 use Rattle.questions.specs.Questions.{variant_ceiling, or_all, whole_of, sum_of, total_of, guard_at, pair_of}
 use Rattle.questions.specs.declared.Built.{Built}
