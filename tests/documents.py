@@ -14,7 +14,7 @@ ROOT = os.path.join(os.path.dirname(os.path.abspath(__file__)), "..")
 PATH = re.compile(r"`([A-Za-z_.0-9*-]+(?:/[A-Za-z_.0-9+*-]+)+/?)`")
 EDIT = re.compile(r"(?:\(|[Ee]dits? |, |and )`([a-z0-9_]+)`\)|[Ee]dits?:? `([a-z0-9_]+)`")
 TELLING_EDITS = ("STATEMENTS.md", "MAP.md")
-LAW = re.compile(r"`([a-z_]+/(?:specs|proofs)/(?:clauses/)?[A-Za-z]+\.antt)`, `([A-Za-z-]+)`")
+LAW = re.compile(r"`([a-z_]+/(?:specs|proofs)/(?:clauses/)?[A-Za-z]+\.antt)`, `([A-Za-z_-]+)`")
 # A name by itself is a law's or a definition's where it has a hyphen or a capital inside or first; with a module before it, it is of that module.
 # One with an underscore may be a function's, a file's or an edit's too.
 NAME = re.compile(r"`(?:([A-Z][A-Za-z]+)\.)?([a-z]+(?:[-_][A-Za-z0-9]+)+|[a-z]*[A-Z][A-Za-z]+|[a-z]+)`")
@@ -47,11 +47,11 @@ def declares(text, name):
 
 @functools.cache
 def plain_names():
-    """The names with an underscore that are no law's and no definition's: crates, files of tests, edits, and what sources in Rattle and C declare."""
-    code = [read(path) for base in ("crates/*/src/**/*.rt", "include/*.h", "tests/c/*.c", "examples/*.c")
-            for path in glob.glob(base, root_dir=ROOT, recursive=True)]
-    words = {word for text in code for word in re.findall(r"[a-z]\w*_\w+", text)}
-    return words | edits() | set(os.listdir(os.path.join(ROOT, "crates")))
+    """The names with an underscore that are no law's and no definition's: crates, edits, and functions that sources in Rattle and C declare."""
+    code = "".join(read(path) for base in ("crates/*/src/**/*.rt", "include/*.h", "tests/c/*.c", "examples/*.c")
+                   for path in glob.glob(base, root_dir=ROOT, recursive=True))
+    functions = set(re.findall(r"\bfn ([a-z_0-9]+)", code)) | set(re.findall(r"^[a-z][a-z0-9_ ]*[ *]([a-z_0-9]+)\(", code, re.M))
+    return functions | edits() | set(os.listdir(os.path.join(ROOT, "crates")))
 
 
 def laws_of(text, known):
@@ -108,8 +108,9 @@ def main():
         text = read(where)
         wanted = [(f"path {path}", there(path)) for path in PATH.findall(text) if not path.startswith("target/")]
         if document in TELLING_EDITS:
-            # A law's name may stand where an edit's does.
-            wanted += [(f"edit {a or b}", (a or b) in known_edits or any(declares(s, a or b) for s in known.values())) for a, b in EDIT.findall(text)]
+            # A law that is named with its file may stand where an edit does.
+            laws = {law for _, law in LAW.findall(text)}
+            wanted += [(f"edit {a or b}", (a or b) in known_edits | laws) for a, b in EDIT.findall(text)]
             wanted += laws_of(text, known)
         if document == "STATEMENTS.md":
             wanted += believed(text)

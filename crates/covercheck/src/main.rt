@@ -16,7 +16,6 @@ use lines::answer::{ANSWER, answer_line};
 use lines::cut::line_end;
 use output::write_whole;
 use std::env::{Env, FillError};
-use std::io;
 
 // Bytes of an input.
 const INPUT: usize = 65536;
@@ -78,9 +77,18 @@ fn has_argument(rt: &HostRuntime) -> bool {
     }
 }
 
-fn main(rt: HostRuntime) -> io::Result<()> {
+// The one line for a program that is given arguments. Where it cannot be said, nothing is left to say it to.
+fn tell_usage(rt: &HostRuntime) {
+    match eprintln!(rt; "usage: covercheck < guards.txt") {
+        Ok(()) => {}
+        Err(_) => {}
+    }
+}
+
+fn main(rt: HostRuntime) {
     if has_argument(&rt) {
-        return eprintln!(rt; "usage: covercheck < guards.txt");
+        tell_usage(&rt);
+        return;
     }
     let mut input = [0u8; INPUT + 1];
     let read = read_whole(&rt, &mut input);
@@ -89,5 +97,4 @@ fn main(rt: HostRuntime) -> io::Result<()> {
         Input::Over => refuse_input(&rt, &input),
         Input::Ended(len) => answer_input(&rt, &input[0..len]),
     }
-    Ok(())
 }
