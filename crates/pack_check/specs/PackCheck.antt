@@ -1,0 +1,61 @@
+-- What the check of a line pack answers at a depth: for the whole line, and for the first pair of variants that is not covered.
+use Rattle.std.specs.Prelude.{ℕ, ◌≤◌, ◌<◌, ◌≡◌, ◌⊎◌, List, length, leb}
+use Rattle.ground.specs.Choice.{choose}
+use Rattle.packs.specs.Refusals.{fault}
+use Rattle.notation.specs.Guard.{Guard}
+use Rattle.saturation.specs.Answer.{Checked}
+use Rattle.saturation.specs.declared.verdict.Verdict.{Verdict}
+use Rattle.saturation.specs.declared.verdict.Verdict.TheVariants.{Covered}
+use Rattle.guard_check.specs.Check.{depth_ceiling}
+use Rattle.questions.specs.Questions.{whole_of, pair_of}
+use Rattle.packs.specs.Pack.{PackReading, refusal, line, pack_read}
+use Rattle.pack_check.specs.declared.verdict.Overlap.{Overlap}
+use Rattle.pack_check.specs.declared.verdict.Overlap.TheVariants as overlap
+use Rattle.pack_check.specs.declared.verdict.PackVerdict.{PackVerdict}
+use Rattle.pack_check.specs.declared.verdict.PackVerdict.TheVariants as verdict
+
+-- a depth over its ceiling is refused first; then the pack decides
+unfoldable pub asked : List ℕ → ℕ → PackReading
+asked file depth = choose (leb depth depth_ceiling) (pack_read file) (refusal (fault 2 0))
+
+-- i and j are two of the variants, counted from 1, i below j
+pub record IsPair (variants : List Guard) (i j : ℕ) : Type 0 where
+  pub first : 0 < i
+  pub below : i < j
+  pub last : j ≤ length variants
+
+-- the pair a, b stands before the pair i, j: by the first and then the second
+abbrev pub Before : ℕ → ℕ → ℕ → ℕ → Type 0
+Before a b i j = (a < i) ⊎ ((a ≡ i) × (b < j))
+
+module _ (n : ℕ) (rule : Guard) (variants : List Guard) (depth : ℕ) where
+  -- check's answer for the pair i, j, over all n flags of the pack
+  abbrev pub PairIs : ℕ → ℕ → Verdict → Type 0
+  PairIs i j v = Checked n (pair_of rule variants i j) depth v
+
+  -- i, j is the first pair that is not covered, and v is its answer
+  pub record FirstPair (i j : ℕ) (v : Verdict) : Type 0 where
+    pub pair : IsPair variants i j
+    pub answer : PairIs i j v
+    pub not_covered : v ≡ Covered → ⊥
+    pub before : (a b : ℕ) → IsPair variants a b → Before a b i j → PairIs a b Covered
+
+  -- no pair, where every one is covered; or the first that is not
+  abbrev pub OverlapSays : Overlap → Type 0
+  OverlapSays overlap.None = (i j : ℕ) → IsPair variants i j → PairIs i j Covered
+  OverlapSays (overlap.Pair i j v) = FirstPair i j v
+
+  -- both answers of a line
+  pub record LineSays (whole : Verdict) (overlap : Overlap) : Type 0 where
+    pub whole-line : Checked n (whole_of rule variants) depth whole
+    pub pairs : OverlapSays overlap
+
+-- a refusal is passed on, and a line is answered
+abbrev pub PackReadingSays : PackReading → ℕ → PackVerdict → Type 0
+PackReadingSays (refusal f) depth r = r ≡ verdict.Refused f
+PackReadingSays (line l) depth (verdict.Line whole overlap) = LineSays (length l.flags) l.rule l.variants depth whole overlap
+PackReadingSays (line l) depth (verdict.Refused f) = ⊥
+
+-- what the check of a pack answers
+abbrev pub PackChecked : List ℕ → ℕ → PackVerdict → Type 0
+PackChecked file depth r = PackReadingSays (asked file depth) depth r

@@ -1,0 +1,49 @@
+// The service: the verdict on a line pack at a depth.
+ghost use Rattle.questions.specs.clauses.Laying.{spans_room};
+ghost use Rattle.std.specs.Prelude.{◌≡◌, ◌*◌, length};
+ghost use Rattle.notation.specs.Ceilings.{connective_ceiling};
+ghost use Rattle.pack_check.specs.PackCheck.{PackChecked};
+ghost use Rattle.pack_check.specs.clauses.Asking.{Stands, LineAnswered};
+
+use crate::asking::{ask_pairs, ask_whole};
+use crate::verdict::PackVerdict;
+use guard_check::check::DEPTH;
+use notation::ceilings::{CODES_ROOM, TRIPLETS_ROOM};
+use packs::faults::fault;
+use packs::read::{Pack, read_pack};
+use questions::SPANS_ROOM;
+
+// Both answers for the line whose guards stand in the pool.
+fn answered(
+    pool: &[u16; TRIPLETS_ROOM],
+    spans: &[usize; SPANS_ROOM],
+    flags: usize,
+    variants: usize,
+    depth: u64,
+) -> PackVerdict
+    requires stands { Stands pool.now spans.now flags variants }
+    requires pool_len { (length pool.now ≡ 3 * connective_ceiling) × (length spans.now ≡ spans_room) }
+    ensures { LineAnswered pool.now spans.now flags variants depth result }
+{
+    let mut out = [0u16; TRIPLETS_ROOM];
+    let whole = ask_whole(pool, spans, flags, variants, depth, &mut out);
+    let overlap = ask_pairs(pool, spans, flags, variants, depth, &mut out);
+    PackVerdict::Line { whole, overlap }
+}
+
+// The depth is refused before anything that stands in the pack.
+pub fn check_pack(pack: &[u8], depth: u64) -> PackVerdict
+    ensures { PackChecked pack.now depth result }
+{
+    if DEPTH < depth {
+        return PackVerdict::Refused(fault(2, 0));
+    }
+    let mut codes = [0usize; CODES_ROOM];
+    let mut pool = [0u16; TRIPLETS_ROOM];
+    let mut spans = [0usize; SPANS_ROOM];
+    let read = read_pack(pack, &mut codes, &mut pool, &mut spans);
+    match read {
+        Pack::Refused(refusal) => PackVerdict::Refused(refusal),
+        Pack::Line(line) => answered(&pool, &spans, line.flags, line.variants, depth),
+    }
+}

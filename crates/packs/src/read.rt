@@ -1,0 +1,76 @@
+// Reads a pack from its first field to its end.
+ghost use Rattle.std.specs.Prelude.{◌≡◌};
+ghost use Rattle.packs.specs.Pack.{pack_read};
+ghost use Rattle.packs.specs.clauses.Taken.{Rooms};
+ghost use Rattle.packs.specs.clauses.Says.{Whole, PackSays};
+
+use crate::due::Due;
+use crate::faults::fault;
+use crate::pool::note;
+use crate::steps::{Progress, Step, step_on};
+use notation::ceilings::{CODES_ROOM, CONNECTIVES, TRIPLETS_ROOM};
+use notation::refusal::Refusal;
+use questions::SPANS_ROOM;
+
+// How many flags and variants a line has.
+#[derive(Clone, Copy)]
+pub struct Line {
+    pub flags: usize,
+    pub variants: usize,
+}
+
+#[derive(Clone, Copy)]
+pub enum Pack {
+    Line(Line),
+    Refused(Refusal),
+}
+
+// The line that has been read, where its questions keep the ceiling: the largest has the connectives of all guards, and one for each variant.
+fn closed(
+    file: &[u8],
+    p: Progress,
+    codes: &[usize; CODES_ROOM],
+    pool: &[u16; TRIPLETS_ROOM],
+    spans: &[usize; SPANS_ROOM],
+) -> Pack
+    requires { Whole file.now codes.now pool.now spans.now p }
+    ensures { PackSays file.now (pack_read file.now) result codes.now pool.now spans.now }
+{
+    if CONNECTIVES < p.total + p.variants {
+        return Pack::Refused(fault(8, p.at));
+    }
+    Pack::Line(Line {
+        flags: p.flags,
+        variants: p.variants,
+    })
+}
+
+// The line of a pack in lent tables, or its refusal. A refusal may have changed them.
+pub fn read_pack(
+    file: &[u8],
+    codes: &mut [usize; CODES_ROOM],
+    pool: &mut [u16; TRIPLETS_ROOM],
+    spans: &mut [usize; SPANS_ROOM],
+) -> Pack
+    requires { Rooms codes.old pool.old spans.old }
+    ensures { PackSays file.now (pack_read file.now) result codes.new pool.new spans.new }
+{
+    note(spans, 0, 0, 0, 0);
+    let mut p = Progress {
+        at: 0,
+        due: Due::Id,
+        flags: 0,
+        variants: 0,
+        total: 0,
+    };
+    loop {
+        let step = step_on(file, p, codes, pool, spans);
+        match step {
+            Step::On(next) => {
+                p = next;
+            }
+            Step::Ended => return closed(file, p, codes, pool, spans),
+            Step::Refused(refusal) => return Pack::Refused(refusal),
+        }
+    }
+}

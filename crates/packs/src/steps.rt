@@ -1,0 +1,243 @@
+// One field further in a pack: a step for each role that a field can have.
+ghost use Rattle.std.specs.Prelude.{◌≡◌, take};
+ghost use Rattle.packs.specs.Refusals.{fault};
+ghost use Rattle.notation.specs.Reading.{reading_from};
+ghost use Rattle.notation.specs.clauses.Codes.{flags_in};
+ghost use Rattle.fields.specs.clauses.Here.{FieldHere};
+ghost use Rattle.packs.specs.clauses.Says.{Going, StepAsks, StepSays, GuardAsks, GuardTakenSays, end_step};
+
+use crate::due::{Due, Role, role_of};
+use crate::faults::fault;
+use crate::pool::{keep, note, note_text};
+use fields::{Field, field_at};
+use notation::ceilings::{CODES_ROOM, TRIPLETS_ROOM};
+use notation::refusal::Refusal;
+use questions::{SPANS_ROOM, VARIANTS};
+use reading::parse::{Parsed, parse_from};
+
+// Bytes of a line's id.
+const ID: usize = 16;
+
+// Where the reader of a pack stands: the place, what is due there, how many flags and variants lie behind, and the connectives of all guards.
+#[derive(Clone, Copy)]
+pub struct Progress {
+    pub at: usize,
+    pub due: Due,
+    pub flags: usize,
+    pub variants: usize,
+    pub total: usize,
+}
+
+// One field further, the end of a line, or a refusal.
+#[derive(Clone, Copy)]
+pub enum Step {
+    On(Progress),
+    Ended,
+    Refused(Refusal),
+}
+
+fn refused(number: usize, place: usize) -> Step
+    ensures { result ≡ Step.Refused (fault number place) }
+{
+    Step::Refused(fault(number, place))
+}
+
+// A guard of the pack, from start to end, as guard `row` of the line: its triplets go behind the others in the pool, where they fit. Its
+// text is all of the pack up to its end, so that every place is one of the pack.
+fn read_guard(
+    file: &[u8],
+    start: usize,
+    end: usize,
+    flags: usize,
+    total: usize,
+    row: usize,
+    codes: &mut [usize; CODES_ROOM],
+    pool: &mut [u16; TRIPLETS_ROOM],
+    spans: &mut [usize; SPANS_ROOM],
+) -> Parsed
+    requires { GuardAsks file.now start end flags total row codes.old pool.old spans.old }
+    ensures { GuardTakenSays
+        (reading_from (take end file.now) start (flags_in (take end file.now) codes.old flags))
+        file.now end row total result pool.old spans.old
+        codes.new pool.new spans.new }
+{
+    let mut out = [0u16; TRIPLETS_ROOM];
+    let parsed = parse_from(&file[0..end], start, flags, codes, &mut out);
+    let Parsed::Guard(guard) = parsed else {
+        return parsed;
+    };
+    keep(&out, guard.count, pool, total);
+    note(spans, row, total, guard.count, guard.root);
+    Parsed::Guard(guard)
+}
+
+// An id: only its length matters.
+fn id_step(
+    file: &[u8],
+    p: Progress,
+    start: usize,
+    end: usize,
+    codes: &[usize; CODES_ROOM],
+    pool: &[u16; TRIPLETS_ROOM],
+    spans: &[usize; SPANS_ROOM],
+) -> Step
+    requires { StepAsks file.now codes.now pool.now spans.now p Role.Id start end }
+    ensures { StepSays file.now p result codes.now pool.now spans.now }
+{
+    let len = end - start;
+    if len == 0 {
+        return refused(15, p.at);
+    }
+    if ID < len {
+        return refused(15, p.at);
+    }
+    Step::On(Progress {
+        at: end,
+        due: Due::RuleOrVariant,
+        flags: p.flags,
+        variants: p.variants,
+        total: p.total,
+    })
+}
+
+// A rule: guard 0 of the line.
+fn rule_step(
+    file: &[u8],
+    p: Progress,
+    start: usize,
+    end: usize,
+    codes: &mut [usize; CODES_ROOM],
+    pool: &mut [u16; TRIPLETS_ROOM],
+    spans: &mut [usize; SPANS_ROOM],
+) -> Step
+    requires { StepAsks file.now codes.old pool.old spans.old p Role.Rule start end }
+    ensures { StepSays file.now p result codes.new pool.new spans.new }
+{
+    let parsed = read_guard(file, start, end, p.flags, p.total, 0, codes, pool, spans);
+    match parsed {
+        Parsed::Refused(refusal) => Step::Refused(refusal),
+        Parsed::Guard(guard) => Step::On(Progress {
+            at: end,
+            due: Due::Variant,
+            flags: guard.flags,
+            variants: p.variants,
+            total: p.total + guard.count,
+        }),
+    }
+}
+
+// A variant: the next guard of the line.
+fn variant_step(
+    file: &[u8],
+    p: Progress,
+    start: usize,
+    end: usize,
+    codes: &mut [usize; CODES_ROOM],
+    pool: &mut [u16; TRIPLETS_ROOM],
+    spans: &mut [usize; SPANS_ROOM],
+) -> Step
+    requires { StepAsks file.now codes.old pool.old spans.old p Role.Variant start end }
+    ensures { StepSays file.now p result codes.new pool.new spans.new }
+{
+    if VARIANTS <= p.variants {
+        return refused(14, p.at);
+    }
+    let row = p.variants + 1;
+    let parsed = read_guard(file, start, end, p.flags, p.total, row, codes, pool, spans);
+    match parsed {
+        Parsed::Refused(refusal) => Step::Refused(refusal),
+        Parsed::Guard(guard) => Step::On(Progress {
+            at: end,
+            due: Due::Text,
+            flags: guard.flags,
+            variants: row,
+            total: p.total + guard.count,
+        }),
+    }
+}
+
+// The text of the last variant.
+fn text_step(
+    file: &[u8],
+    p: Progress,
+    start: usize,
+    end: usize,
+    codes: &[usize; CODES_ROOM],
+    pool: &[u16; TRIPLETS_ROOM],
+    spans: &mut [usize; SPANS_ROOM],
+) -> Step
+    requires { StepAsks file.now codes.now pool.now spans.old p Role.Text start end }
+    ensures { StepSays file.now p result codes.now pool.now spans.new }
+{
+    note_text(spans, p.variants, start, end);
+    Step::On(Progress {
+        at: end,
+        due: Due::VariantOrEnd,
+        flags: p.flags,
+        variants: p.variants,
+        total: p.total,
+    })
+}
+
+// The pack ends: a line where all its fields are there.
+fn ended(p: Progress) -> Step
+    ensures { result ≡ end_step p.due p.at }
+{
+    let due = p.due;
+    let at = p.at;
+    match due {
+        Due::Id => refused(13, at),
+        Due::RuleOrVariant => refused(14, at),
+        Due::Variant => refused(14, at),
+        Due::Text => refused(13, at),
+        Due::VariantOrEnd => Step::Ended,
+    }
+}
+
+// A whole field, by what it is where it stands.
+fn field_step(
+    file: &[u8],
+    p: Progress,
+    tag: u8,
+    start: usize,
+    end: usize,
+    codes: &mut [usize; CODES_ROOM],
+    pool: &mut [u16; TRIPLETS_ROOM],
+    spans: &mut [usize; SPANS_ROOM],
+) -> Step
+    requires going { Going file.now codes.old pool.old spans.old p }
+    requires field_here { FieldHere file.now p.at tag start end }
+    ensures { StepSays file.now p result codes.new pool.new spans.new }
+{
+    let due = p.due;
+    let role = role_of(due, tag);
+    match role {
+        Role::Wrong => refused(13, p.at),
+        Role::Id => id_step(file, p, start, end, codes, pool, spans),
+        Role::Rule => rule_step(file, p, start, end, codes, pool, spans),
+        Role::Variant => variant_step(file, p, start, end, codes, pool, spans),
+        Role::Text => text_step(file, p, start, end, codes, pool, spans),
+    }
+}
+
+// One field further.
+pub fn step_on(
+    file: &[u8],
+    p: Progress,
+    codes: &mut [usize; CODES_ROOM],
+    pool: &mut [u16; TRIPLETS_ROOM],
+    spans: &mut [usize; SPANS_ROOM],
+) -> Step
+    requires { Going file.now codes.old pool.old spans.old p }
+    ensures { StepSays file.now p result codes.new pool.new spans.new }
+{
+    let at = p.at;
+    let field = field_at(file, at);
+    match field {
+        Field::Whole { tag, start, end } => field_step(
+            file, p, tag, start, end, codes, pool, spans,
+        ),
+        Field::Cut => refused(13, at),
+        Field::End => ended(p),
+    }
+}

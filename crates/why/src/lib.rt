@@ -1,0 +1,116 @@
+// The service why: which flags of a gap force it, none to spare.
+#![tactic(auto)]
+
+ghost use Rattle.std.specs.Prelude.{◌≡◌, ◌^◌, ◌≤◌, ◌<◌};
+ghost use Rattle.notation.specs.Reading.{reading};
+ghost use Rattle.truth.specs.clauses.Computed.{root_value, Triplets};
+ghost use Rattle.truth.specs.clauses.Words.{word_bits};
+ghost use Rattle.freeing.specs.clauses.Some.{keeps};
+ghost use Rattle.why.specs.Kept.{Forces};
+ghost use Rattle.why.specs.Explained.{fault, Explains};
+ghost use Rattle.why.specs.clauses.Keeping.{none_found, Decides, Turned, Keeping};
+
+use freeing::some::fix_some;
+use freeing::triplet::negated;
+use gaps::writing::Found;
+use notation::ceilings::{CODES_ROOM, TRIPLETS_ROOM, VARIABLES};
+use notation::refusal::Refusal;
+use reading::parse::{Parsed, parse};
+use search::search;
+use truth::states::is_state;
+use truth::values::root_value;
+
+// The kept flags, as a state has its flags: the first is the highest bit; or why there is no answer.
+#[derive(Clone, Copy)]
+pub enum Explanation {
+    Kept(u64),
+    Refused(Refusal),
+}
+
+// Both signs of each variable.
+const LITERALS: usize = 2 * VARIABLES;
+
+// The refusal with this number at this place.
+fn fault(number: usize, place: usize) -> Refusal
+    ensures { result ≡ fault number place }
+{
+    Refusal {
+        number: number,
+        place: place,
+    }
+}
+
+// Whether nothing was found.
+fn is_none(found: Found) -> bool
+    ensures { result ≡ none_found found }
+{
+    match found {
+        Found::Done(_) => true,
+        Found::More {
+            written: _,
+            next: _,
+        } => false,
+    }
+}
+
+// Whether the triplets are false in every state that agrees with `state` on the flags of `keep`: what is left of them with
+// these flags fixed is searched for a true state, with no room, so that the search ends at the first.
+fn forced(xs: &[u16], count: usize, root: u16, n: usize, keep: u64, state: u64) -> bool
+    requires { Triplets n xs.now count root }
+    ensures { Decides result (Forces n (root_value n xs.now count root) state (keeps n keep)) }
+{
+    let mut to = [258u16; LITERALS];
+    let mut ys = [258u16; TRIPLETS_ROOM];
+    let freed = fix_some(xs, count, root, n, keep, state, &mut to, &mut ys);
+    let turned = negated(freed.root);
+    let mut room = [0u32; 0];
+    let found = search(&ys, freed.count, turned, freed.flags, 0, &mut room);
+    is_none(found)
+}
+
+// The turn of the flag at a place of the mask: it is dropped where the others still kept force a gap.
+fn turn(xs: &[u16], count: usize, root: u16, n: usize, state: u64, keep: u64, place: usize) -> u64
+    requires { Triplets n xs.now count root × (place < word_bits) × (2 ^ place ≤ keep) }
+    ensures { Turned n (root_value n xs.now count root) state keep place result }
+{
+    let less = keep - (1 << place);
+    if forced(xs, count, root, n, less, state) {
+        return less;
+    }
+    keep
+}
+
+// The flags kept of a gap: gone through in order.
+fn kept_flags(xs: &[u16], count: usize, root: u16, n: usize, state: u64) -> u64
+    requires { Triplets n xs.now count root }
+    ensures { Keeping n (root_value n xs.now count root) state n result }
+{
+    let mut keep = (1 << n) - 1;
+    let mut i = 0;
+    while i < n {
+        keep = turn(xs, count, root, n, state, keep, n - (i + 1));
+        i += 1;
+    }
+    keep
+}
+
+// The flags of a gap that are kept, where each is dropped in its turn if the others still kept force a gap.
+pub fn why(text: &[u8], state: u64) -> Explanation
+    ensures { Explains (reading text.now) state result }
+{
+    let mut codes = [0usize; CODES_ROOM];
+    let mut triplets = [0u16; TRIPLETS_ROOM];
+    let parsed = parse(text, &mut codes, &mut triplets);
+    let guard = match parsed {
+        Parsed::Refused(refusal) => return Explanation::Refused(refusal),
+        Parsed::Guard(guard) => guard,
+    };
+    if !is_state(state, guard.flags) {
+        return Explanation::Refused(fault(9, 0));
+    }
+    if root_value(&triplets, guard.count, guard.root, guard.flags, state) {
+        return Explanation::Refused(fault(16, 0));
+    }
+    let keep = kept_flags(&triplets, guard.count, guard.root, guard.flags, state);
+    Explanation::Kept(keep)
+}
