@@ -6,7 +6,14 @@ use Rattle.freeing.proofs.some.fix_some.Goals as goal
 pub fold-left-requires : goal.fold-left-requires
 fold-left-requires c =
     record {
-      less_le_n = (free-few _ _ _ _ _ _ c.start_some-flags.ensures, c.requires.n_le_flag_ceiling.0, c.requires.n_le_flag_ceiling.1, c.requires.n_le_flag_ceiling.2, omega arith, c.requires.n_le_flag_ceiling.4);
+      less_le_n = (
+        free-few _ _ _ _ _ _ c.start_some-flags.ensures,
+        c.requires.n_le_flag_ceiling.0,
+        c.requires.n_le_flag_ceiling.1,
+        c.requires.n_le_flag_ceiling.2,
+        omega arith,
+        c.requires.n_le_flag_ceiling.4,
+      );
       shape = (c.requires.shape.0, c.requires.shape.1, table-some _ _ _ _ _ _ c.start_some-flags.ensures);
     }
 
