@@ -96,7 +96,8 @@ literal-in-row rows root width w i h =
 module _ (rows : List ℕ) (root n width base start : ℕ) where
   -- a word of the row, turned and cut to what is live, stands for the states in which the literal is false
   pub row_word : (w t live : ℕ) → t ≡ turned (root + 1) → LiveWord n live → w < words_of n
-      → false_from (since start (marked (bit_and (bit_xor (get_or rows (root / 2 * width + w) 0) t) live) (base + word_bits * w))) (base + word_bits * w) word_bits
+      → false_from (since start (marked (bit_and (bit_xor (get_or rows (root / 2 * width + w) 0) t) live) (base + word_bits * w)))
+      (base + word_bits * w) word_bits
       ≡ false_from (since start (row_value rows root n width base)) (base + word_bits * w) word_bits
   unfolding row_value
   row_word w t live e l h =

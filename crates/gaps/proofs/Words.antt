@@ -67,10 +67,12 @@ module _ (word base from : ℕ) (out₀ out : List ℕ) (rest at m : ℕ) (i : R
     rest-within = omega (arith, lowest-found (base + word_bits - at) word_bits rest (omega (arith, i.lower)) i.small n, i.upper)
 
     rest-next : false_from (marked rest at) at (base + word_bits - at)
-        ≡ (at + count_trailing_zeros word_bits rest) ∷ false_from (marked (rest / 2 ^ count_trailing_zeros word_bits rest / 2) (at + count_trailing_zeros word_bits rest + 1))
+        ≡ (at + count_trailing_zeros word_bits rest) ∷ false_from (marked (rest / 2 ^ count_trailing_zeros word_bits rest / 2) (at +
+        count_trailing_zeros word_bits rest + 1))
         (at + count_trailing_zeros word_bits rest + 1) (base + word_bits - (at + count_trailing_zeros word_bits rest + 1))
     rest-next =
-        word_next rest at (base + word_bits - at) (base + word_bits - (at + count_trailing_zeros word_bits rest + 1)) (count_trailing_zeros word_bits rest) (lowest word_bits rest)
+        word_next rest at (base + word_bits - at) (base + word_bits - (at + count_trailing_zeros word_bits rest + 1))
+        (count_trailing_zeros word_bits rest) (lowest word_bits rest)
         (omega (arith, rest-within, i.lower)) (omega (arith, rest-within, i.upper))
 
     pub rest-full : m ≡ length out → Writes out₀ from (false_from (marked word base) base word_bits) (More m (at + count_trailing_zeros word_bits rest)) out

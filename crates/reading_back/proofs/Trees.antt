@@ -33,7 +33,8 @@ seen_after codes l (flag i) p u = seen p (codes i) u
 seen_after codes l (truth b) p u = u
 seen_after codes l (negated g) p u = seen_after codes 4 g (suc p) u
 seen_after codes l (joined s g h) p u =
-    after_both (length (written codes (left_of s) g)) (seen_after codes (left_of s) g) (seen_after codes (right_of s) h) (choose (ltb (level_of s) l) (suc p) p) u
+    after_both (length (written codes (left_of s) g)) (seen_after codes (left_of s) g) (seen_after codes (right_of s) h) (choose (ltb (level_of s) l)
+    (suc p) p) u
 
 -- ---- the levels of the signs
 level-below : (s : Sign) → suc (level_of s) ≤ 4
@@ -192,7 +193,8 @@ module _ (codes : ℕ → Code) (whole : Guard) (ceilings : WithinCeilings codes
     unfolding bracketed bare depth inside
     own-chain e =
         rw (zero-add depth)
-        (left_join s e (nesting (left_of s) g) (written codes (left_of s) g) (seen_after codes (left_of s) g) g (x.left s) (y.level (right_of s) (right-below s)))
+        (left_join s e (nesting (left_of s) g) (written codes (left_of s) g) (seen_after codes (left_of s) g) g (x.left s) (y.level (right_of s)
+        (right-below s)))
 
     on-the-left : (t : Sign) → LeftBy (ltb (level_of s) (left_of t)) t
     on-the-left t =

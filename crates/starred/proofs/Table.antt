@@ -11,7 +11,8 @@ use borrow.Author.Tests.{le-leb, lt-leb}
 use Rattle.notation.specs.Tokens.{same, implies, and, among, code_byte, code_run, coded, hashed, marked, token_of, further, tokens_from, tokens}
 use Rattle.notation.specs.Walk.{Flag, same_code, known, seen, within, walk}
 use Rattle.notation.specs.Guard.{Guard, flag, truth, joined, connectives}
-use Rattle.notation.specs.Grammar.{follow, number, same_sign, is_sign, sign_next, past, to_the_left, to_the_right, left_level, right_level, and_of, or_of, implies_of}
+use Rattle.notation.specs.Grammar.{follow, number, same_sign, is_sign, sign_next, past}
+use Rattle.notation.specs.Grammar.{to_the_left, to_the_right, left_level, right_level, and_of, or_of, implies_of}
 use Rattle.notation.specs.Grammar.{same_of, closed, operand_of, in_brackets, tree_of, tree}
 use Rattle.notation.specs.Triplets.{triplet_variable, triplet_of, literal_of, literal, triplets}
 use Rattle.notation.specs.Reading.{guard, judged, reading}
@@ -58,7 +59,8 @@ record Texts : Type 0 where
 
 texts : Texts
 unfolding bytes among code_byte code_run coded hashed marked token_of further tokens_from tokens same_code known seen within walk connectives follow number
-    same_sign is_sign sign_next past to_the_left to_the_right left_level right_level and_of or_of implies_of same_of closed operand_of in_brackets tree_of tree judged reading
+    same_sign is_sign sign_next past to_the_left to_the_right left_level right_level and_of or_of implies_of same_of
+    closed operand_of in_brackets tree_of tree judged reading
 texts =
     record {
       equal = refl;

@@ -39,7 +39,12 @@ numbers-in : (u : List Flag) (ts : Tokens) → numbers_in u ts ≡ map (λ c. nu
 unfolding numbers_in seen_in codes_in
 numbers-in u (end p) = refl
 numbers-in u (at p t ts) =
-    rw (map-append, numbers-at p u (code_of t) (seen_in (seen_at p (code_of t) u) ts) (keeps-in (seen_at p (code_of t) u) ts), numbers-in (seen_at p (code_of t) u) ts)
+    rw (
+      map-append,
+      numbers-at p u (code_of t) (seen_in (seen_at p (code_of t) u) ts) (keeps-in (seen_at p (code_of t) u) ts),
+      numbers-in (seen_at p
+          (code_of t) u) ts,
+    )
 
 -- ---- the order of the flags
 -- the flags met after w by going through a list of them

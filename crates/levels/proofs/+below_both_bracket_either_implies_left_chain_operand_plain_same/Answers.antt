@@ -13,9 +13,11 @@ use Rattle.levels.specs.clauses.Levels.{operands_at, below_of}
 use Rattle.levels.proofs.Nesting.{right_is}
 use Rattle.levels.proofs.Turning.{says-found, says-refused, passed, asks-sign, sign-refused, nearer, operand-refused, waits-on}
 use Rattle.levels.proofs.Nested.{rooms-as}
-use Rattle.levels.proofs.Waiting.{rising-opened, rising-refused, up_first, passed-aside, asks-next, up_more, down-first, down-more, chain-ends, asks-last, all-joined}
+use Rattle.levels.proofs.Waiting.{rising-opened, rising-refused, up_first, passed-aside, asks-next}
+use Rattle.levels.proofs.Waiting.{up_more, down-first, down-more, chain-ends, asks-last, all-joined}
 use mathlib.Core.Path.{refl, sym, ◌∙◌}
-use Rattle.levels.proofs.Turning.{says-found, says-refused, still-twice, carried, here, rooms-here, passed, asks-sign, sign-refused, chain-read, asks-operand, nearer, operand-refused, asks-joined, grows, on-more, waits-past}
+use Rattle.levels.proofs.Turning.{says-found, says-refused, still-twice, carried, here, rooms-here, passed, asks-sign}
+use Rattle.levels.proofs.Turning.{sign-refused, chain-read, asks-operand, nearer, operand-refused, asks-joined, grows, on-more, waits-past}
 use Rattle.levels.proofs.Turning.{says-refused}
 use Rattle.levels.proofs.Nested.{rooms-as, banged-none, bang-refused, bang-more, behind-says}
 use mathlib.Core.Path.{sym, ap, ◌∙◌}
@@ -47,11 +49,13 @@ bracket-returns-in_default t c =
 
 pub bracket-returns-in_default-inner : goal.bracket-returns-in_default-inner
 bracket-returns-in_default-inner t c =
-    inside-refused-says c.requires.asks c.requires.at_value c.if-brackets-ge-BRACKETS.false c.advanced-moved.ensures c.in-Taken.is c.same-inner.ensures c.in_default-inner.is
+    inside-refused-says c.requires.asks c.requires.at_value c.if-brackets-ge-BRACKETS.false c.advanced-moved.ensures c.in-Taken.is
+    c.same-inner.ensures c.in_default-inner.is
 
 pub bracket-closed-shut-requires : goal.bracket-closed-shut-requires
 bracket-closed-shut-requires t c =
-    let all = asks-closed c.requires.asks c.requires.at_value c.if-brackets-ge-BRACKETS.false c.advanced-moved.ensures c.in-Taken.is c.same-inner.ensures c.in-Found.is in
+    let all = asks-closed c.requires.asks c.requires.at_value c.if-brackets-ge-BRACKETS.false c.advanced-moved.ensures c.in-Taken.is
+    c.same-inner.ensures c.in-Found.is in
     record {
       at_len = all.0;
       token_fits = all.1.0;
@@ -60,7 +64,8 @@ bracket-closed-shut-requires t c =
 
 pub bracket-returns-in_default-shut : goal.bracket-returns-in_default-shut
 bracket-returns-in_default-shut t c =
-    unclosed c.requires.asks c.requires.at_value c.if-brackets-ge-BRACKETS.false c.advanced-moved.ensures c.in-Taken.is c.same-inner.ensures c.in-Found.is c.closed-shut.ensures
+    unclosed c.requires.asks c.requires.at_value c.if-brackets-ge-BRACKETS.false c.advanced-moved.ensures c.in-Taken.is c.same-inner.ensures
+    c.in-Found.is c.closed-shut.ensures
     c.in_default-shut.is
 
 pub bracket-returns : goal.bracket-returns

@@ -25,5 +25,6 @@ returns c =
     atom-says (subst (λ C. OneToken c.args.text.now (place c.args.at.now) c.args.codes.now C (get_or c.args.at.now 3 0 + 1)
     (flag (c.place_of-place.result + 1)) c.flag_literal-2.result) (sym c.enter.ensures)
     (new-token c.args.text.now (place c.args.at.now) c.args.codes.now c.requires.standing c.requires.at_value c.place_of-place.result c.place_of-place.ensures
-    c.if-place-flags.false (omega (arith, c.if-flags-ge-FLAGS.false)) c.flag_literal-2.result c.flag_literal-2.ensures c.key_of-key.result c.key_of-key.ensures))
+    c.if-place-flags.false (omega (arith, c.if-flags-ge-FLAGS.false)) c.flag_literal-2.result c.flag_literal-2.ensures c.key_of-key.result
+    c.key_of-key.ensures))
     (flags-stored (get_or c.args.at.now 3 0 + 1) c.args.at.now c.requires.at_len) c.past_token-2.ensures

@@ -9,5 +9,6 @@ returns-then-signs-ge-CONNECTIVES c =
 
 pub returns : goal.returns
 returns c =
-    past-sign-says c.args.text.now c.args.at.now c.requires.token_fits c.requires.at_value (omega (arith, c.if-signs-ge-CONNECTIVES.false)) (sign-counted c.args.at.now c.requires.at_len)
+    past-sign-says c.args.text.now c.args.at.now c.requires.token_fits c.requires.at_value (omega (arith, c.if-signs-ge-CONNECTIVES.false))
+    (sign-counted c.args.at.now c.requires.at_len)
     c.token_at.ensures

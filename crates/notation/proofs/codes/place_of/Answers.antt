@@ -12,7 +12,11 @@ loop-i-init c =
 
 pub returns-then-stands_at : goal.returns-then-stands_at
 returns-then-stands_at c =
-    record { numbered = placed _ _ _ c.loop-i.i c.loop-i.invariant.1 _ c.loop-i-test.true (sym c.stands_at.ensures ∙ c.if-stands_at.true); small = search rules }
+    record {
+      numbered = placed _ _ _ c.loop-i.i c.loop-i.invariant.1 _ c.loop-i-test.true (sym c.stands_at.ensures ∙
+          c.if-stands_at.true);
+      small = search rules;
+    }
 
 pub loop-i-preserved : goal.loop-i-preserved
 loop-i-preserved c =

@@ -36,7 +36,8 @@ returns-then-len-le-KEY_BYTES c =
     = ap (λ (m : ℕ). length (take m (drop s a.text.now))) (sym all) ∙ part_length a.text.now s (end_of a.codes.now a.place)
     (c.requires.in_text.0.ends a.place (omega arith)) ∙ all in
     let keys : key_of (part a.start a.next a.text.now) ≡ key_of (take n (drop s a.text.now))
-    = sym c.requires.keyed.key ∙ sym c.if-codes-place.false ∙ c.requires.in_text.0.keys a.place (omega arith) ∙ ap (λ (m : ℕ). key_of (take m (drop s a.text.now)))
+    = sym c.requires.keyed.key ∙ sym c.if-codes-place.false ∙ c.requires.in_text.0.keys a.place (omega arith) ∙ ap (λ (m : ℕ). key_of (take m
+    (drop s a.text.now)))
     all in
     sym (ap (λ (m : ℕ). same_code (part a.start a.next a.text.now) (take m (drop s a.text.now))) all
     ∙ same_key a.text.now (bytes_of a.text.now (λ i. omega (arith, c.type_inv.text i))) a.start s n c.if-len-le-KEY_BYTES.true

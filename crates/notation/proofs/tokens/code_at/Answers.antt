@@ -7,9 +7,17 @@ use Rattle.notation.proofs.tokens.code_at.Goals as goal
 
 pub returns-then-next-start-gt-CODE : goal.returns-then-next-start-gt-CODE
 returns-then-next-start-gt-CODE c =
-    refused-stored c.refuse.ensures (cut-long _ _ _ c.requires.0 c.code_end-next.ensures (omega (arith, c.if-next-start-gt-CODE.true, c.code_end-next.ensures.run)))
+    refused-stored c.refuse.ensures (cut-long _ _ _ c.requires.0 c.code_end-next.ensures (omega (
+      arith,
+      c.if-next-start-gt-CODE.true,
+      c.code_end-next.ensures.run,
+    )))
 
 pub returns : goal.returns
 unfolding kind_of
 returns c =
-    taken-stored c.store.ensures (cut-code _ _ _ c.requires.0 c.code_end-next.ensures (omega (arith, c.if-next-start-gt-CODE.false, c.code_end-next.ensures.run)))
+    taken-stored c.store.ensures (cut-code _ _ _ c.requires.0 c.code_end-next.ensures (omega (
+      arith,
+      c.if-next-start-gt-CODE.false,
+      c.code_end-next.ensures.run,
+    )))

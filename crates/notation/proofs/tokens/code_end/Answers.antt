@@ -7,7 +7,8 @@ use Rattle.notation.proofs.tokens.code_end.Goals as goal
 
 pub returns-then-c-ne-CODE_BYTE : goal.returns-then-c-ne-CODE_BYTE
 returns-then-c-ne-CODE_BYTE c =
-    let none = ap length (run_none c.args.text.now c.loop-at.at c.loop-at-test.true (class-no-code _ (λ e. c.if-c-ne-CODE_BYTE.true (c.class-c.ensures ∙ e)))) in
+    let none = ap length (run_none c.args.text.now c.loop-at.at c.loop-at-test.true (class-no-code _ (λ e. c.if-c-ne-CODE_BYTE.true
+    (c.class-c.ensures ∙ e)))) in
     record { run = omega (arith, none, c.loop-at.invariant.2); inside = search rules }
 
 pub loop-at-preserved : goal.loop-at-preserved

@@ -43,5 +43,6 @@ loop-v-preserved c =
 
 pub returns : goal.returns
 returns c =
-    shared-done c.args.size c.args.of.now c.args.other.now c.loop-v.of c.requires.classes c.requires.classes_2 c.requires.of_value.0 c.requires.of_value.1 c.loop-v.invariant.1
+    shared-done c.args.size c.args.of.now c.args.other.now c.loop-v.of c.requires.classes c.requires.classes_2 c.requires.of_value.0
+    c.requires.of_value.1 c.loop-v.invariant.1
     (λ u. c.loop-v.invariant.3 u (omega arith))

@@ -17,7 +17,8 @@ side-returns-then-last-start t c =
 
 pub side-returns-then-left-eq0 : goal.side-returns-then-left-eq0
 side-returns-then-left-eq0 t c =
-    walked-true _ _ _ _ _ _ _ _ c.fix_first-left.ensures _ _ _ _ _ _ _ c.requires.low_le_n.2 c.if-left-eq0.true c.requires.triplets.3 c.requires.triplets.1.right
+    walked-true _ _ _ _ _ _ _ _ c.fix_first-left.ensures _ _ _ _ _ _ _ c.requires.low_le_n.2 c.if-left-eq0.true c.requires.triplets.3
+    c.requires.triplets.1.right
 
 pub side-returns : goal.side-returns
 side-returns t c =

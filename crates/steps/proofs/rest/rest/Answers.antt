@@ -11,7 +11,8 @@ overflow_add-was c =
 
 pub loop-left-preserved : goal.loop-left-preserved
 loop-left-preserved c =
-    settling-next c.args.triplets.now c.args.count c.args.of.now c.loop-left.of c.pass.new.of c.loop-left.left c.loop-left.was c.size_of-left-in-loop-left.result
+    settling-next c.args.triplets.now c.args.count c.args.of.now c.loop-left.of c.pass.new.of c.loop-left.left c.loop-left.was
+    c.size_of-left-in-loop-left.result
     c.loop-left.invariant c.pass.ensures c.size_of-left-in-loop-left.ensures
 
 pub returns : goal.returns
