@@ -27,10 +27,9 @@ use Rattle.operands.specs.clauses.Steps.{joins, place}
 use Rattle.operands.specs.declared.Answer.{Answer}
 use Rattle.operands.specs.declared.Answer.TheVariants as answer
 use Rattle.levels.specs.clauses.Levels.{plain, operands_at, below_of, part, FoundPart, Asks, Says}
-use Rattle.reading.specs.Service.{refused_with, guard_with}
+use Rattle.reading.specs.Service.{Parsed, refused_with, guard_with}
 use Rattle.reading.specs.clauses.Parsing.{ended_as, ParseSays}
-use Rattle.reading.specs.declared.parse.Parsed.{Parsed}
-use Rattle.reading.specs.declared.parse.Parsed.TheVariants as parsed
+use Rattle.std.specs.Prelude.{Err}
 use Rattle.notation.proofs.Coding.{flags-length}
 use Rattle.operands.proofs.Stepping.{stops-joins}
 
@@ -139,7 +138,7 @@ module _ {text : List ℕ} {from n : ℕ} {p p₁ : List ℕ} {s : Step} (b : Be
 
   module _ (h : length text - from ≤ text_ceiling) (codes : List ℕ) where
     -- a faulty first token
-    pub faulty-first : s ≡ step.Refused → {r : Parsed} → r ≡ parsed.Refused (refusal_in p₁) → (codes' out' : List ℕ) →
+    pub faulty-first : s ≡ step.Refused → {r : Parsed} → r ≡ Err (refusal_in p₁) → (codes' out' : List ℕ) →
         ParseSays text (reading_from text from (flags_in text codes n)) r codes' out'
     faulty-first e {r} q codes' out' =
         says-refusal text from (flags_in text codes n) h (get_or p₁ 6 0) (get_or p₁ 1 0)
@@ -163,7 +162,7 @@ module _ {text : List ℕ} {from n : ℕ} {p p₁ : List ℕ} {s : Step} (b : Be
           ∙ ap (λ (k : ℕ). walk operand 0 (flags_in text codes (get_or p₁ 3 0)) k (ahead text (token_in p₁))) (sym (c.behind.signs ∙ b.signs))
 
       -- a refusal by a level
-      pub refused-first : a ≡ answer.Refused → {r : Parsed} → r ≡ parsed.Refused (refusal_in p₂) → ParseSays text
+      pub refused-first : a ≡ answer.Refused → {r : Parsed} → r ≡ Err (refusal_in p₂) → ParseSays text
           (reading_from text from (flags_in text codes n)) r codes₂ out₂
       refused-first f {r} q = says-refusal text from (flags_in text codes n) h (get_or p₂ 6 0) (get_or p₂ 1 0) (from_first ∙ v.refused f) r q codes₂ out₂
 

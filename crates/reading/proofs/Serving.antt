@@ -17,14 +17,12 @@ use Rattle.notation.specs.Triplets.{literal}
 use Rattle.notation.specs.Reading.{Reading, refusal, guard, reading}
 use Rattle.notation.specs.clauses.Cut.{part}
 use Rattle.notation.specs.clauses.Codes.{start_of, end_of, flag_at, flags_in, InText}
-use Rattle.reading.specs.Service.{refused_with, guard_with, read_answer, room_after, ReadSays, unnamed, name_in, name_answer, part_of}
+use Rattle.std.specs.Prelude.{Ok, Err}
+use Rattle.reading.specs.Service.{Parsed, Named, part_with, refused_with, guard_with, read_answer, room_after, ReadSays, unnamed, name_in, name_answer, part_of}
 use Rattle.reading.specs.clauses.Parsing.{GuardRead, ParseSays, Spans, named_in}
 use Rattle.notation.specs.declared.refusal.Refusal.{Refusal}
 use Rattle.reading.specs.declared.parse.Guard as counted
-use Rattle.reading.specs.declared.parse.Parsed.{Parsed}
-use Rattle.reading.specs.declared.parse.Parsed.TheVariants as parsed
-use Rattle.reading.specs.declared.name.Named.{Named}
-use Rattle.reading.specs.declared.name.Named.TheVariants as named
+use Rattle.reading.specs.declared.name.Stretch.{Stretch}
 use Rattle.notation.proofs.Coding.{flags-length, flags-split}
 
 -- what was read, where parse answers a guard
@@ -32,12 +30,12 @@ pub record Found (text : List ℕ) (R : Reading) (x : counted.Guard) (codes out 
   pub tree : Guard
   pub flags : List Flag
   pub says : R ≡ guard tree flags
-  pub read : GuardRead text tree flags (parsed.Guard x) codes out
+  pub read : GuardRead text tree flags (Ok x) codes out
   pub counts : x ≡ record { flags = length flags; count = connectives tree; root = literal 0 tree }
 
 -- where parse answers a guard, the text says one, and the tables hold it
 pub guard-found : (text : List ℕ) (R : Reading) (r : Parsed) (codes out : List ℕ) → ParseSays text R r codes out → (x : counted.Guard) → r
-    ≡ parsed.Guard x → Found text R x codes out
+    ≡ Ok x → Found text R x codes out
 guard-found text (refusal k p) r codes out s x e = let z : ◌≡◌ {A = ℕ} 0 1 = cc in absurd (omega arith)
 guard-found text (guard g u) r codes out s x e =
     record {
@@ -50,7 +48,7 @@ guard-found text (guard g u) r codes out s x e =
 
 -- where parse refuses, so does the text
 pub refusal-found : (text : List ℕ) (R : Reading) (r : Parsed) (codes out : List ℕ) → ParseSays text R r codes out → (f : Refusal) → r
-    ≡ parsed.Refused f → R ≡ refusal f.number f.place
+    ≡ Err f → R ≡ refusal f.number f.place
 refusal-found text (refusal k p) r codes out s f e =
     let a : r ≡ refused_with k p = s in
     let b : f ≡ record { number = k; place = p } = cc in
@@ -70,10 +68,9 @@ copy_more from to i f t =
     ∙ ap (λ (l : List ℕ). l ++ drop (suc i) to) (sym (take-suc from i 0 f))
     ∙ rw add-one
 
-pub read-refused : (text room : List ℕ) (r : Parsed) (f : Refusal) → r ≡ parsed.Refused f → reading text ≡ refusal f.number f.place
-    → ReadSays text room r room
+pub read-refused : (text room : List ℕ) (f : Refusal) → reading text ≡ refusal f.number f.place → ReadSays text room (Err f) room
 unfolding read_answer room_after
-read-refused text room r f e h = record { answer = rw (e, h); left = rw h }
+read-refused text room f h = record { answer = rw h; left = rw h }
 
 module _ (text room : List ℕ) (x : counted.Guard) (codes out : List ℕ) (f : Found text (reading text) x codes out) where
   count-is : x.count ≡ connectives f.tree
@@ -90,12 +87,12 @@ module _ (text room : List ℕ) (x : counted.Guard) (codes out : List ℕ) (f : 
       record { answer = rw (f.says, l); left = rw (f.says, l) }
 
   pub read_fits : 3 * x.count ≤ length room → (after : List ℕ) → after ≡ take (3 * x.count) out ++ drop (3 * x.count) room → ReadSays text room
-      (parsed.Guard x) after
+      (Ok x) after
   unfolding read_answer room_after
   read_fits h after e =
       let l : leb (3 * connectives f.tree) (length room) ≡ true = le-leb (3 * connectives f.tree) (length room) (rw count-is at h) in
       record {
-        answer = rw (f.says, l) (ap parsed.Guard f.counts);
+        answer = rw (f.says, l) (ap Ok f.counts);
         left = rw (f.says, l, e, count-is, f.read.written);
       }
 
@@ -119,7 +116,7 @@ name-over (f ∷ u) (suc zero) h = absurd (omega arith)
 name-over (f ∷ u) (suc (suc i)) h = name-over u (suc i) (omega arith)
 
 -- the flag that i others stand before has the number i + 1
-name-after : (v w : List Flag) (f : Flag) → name_in (v ++ (f ∷ w)) (suc (length v)) ≡ named.Part f.place (length f.name)
+name-after : (v w : List Flag) (f : Flag) → name_in (v ++ (f ∷ w)) (suc (length v)) ≡ part_with f.place (length f.name)
 unfolding name_in
 name-after [] w f = refl
 name-after (g ∷ v) w f = name-after v w f
@@ -135,7 +132,7 @@ name-same text codes k (suc j) t =
     rw (lt-ltb 0 (suc j) (omega arith), m) (by-test (leb (suc j) k) refl)
   where
     here : Named
-    here = named.Part (start_of codes j) (end_of codes j - start_of codes j)
+    here = part_with (start_of codes j) (end_of codes j - start_of codes j)
 
     by-test : (b : Bool) → leb (suc j) k ≡ b → choose b here (unnamed 11 0) ≡ name_in (flags_in text codes k) (suc j)
     by-test true e =
@@ -146,10 +143,10 @@ name-same text codes k (suc j) t =
         sym (ap (λ (u : List Flag). name_in u (suc j)) r.1
         ∙ ap (λ (n : ℕ). name_in (flags_in text codes j ++ (f ∷ r.0)) (suc n)) (sym (flags-length text codes j))
         ∙ name-after (flags_in text codes j) r.0 f
-        ∙ ap (named.Part (start_of codes j)) l)
+        ∙ ap (part_with (start_of codes j)) l)
     by-test false e = sym (name-over (flags_in text codes k) (suc j) (rw (flags-length text codes k) (leb-false (suc j) k e)))
 
-pub name-refused : (text : List ℕ) (i : ℕ) (f : Refusal) → reading text ≡ refusal f.number f.place → named.Refused f ≡ name_answer
+pub name-refused : (text : List ℕ) (i : ℕ) (f : Refusal) → reading text ≡ refusal f.number f.place → Err f ≡ name_answer
     (reading text) i
 unfolding name_answer
 name-refused text i f e = rw e
@@ -162,20 +159,20 @@ name-found text i x codes out f =
     rw (k, f.says) (name-same text codes (length f.flags) i f.read.in_text ∙ ap (λ (u : List Flag). name_in u i) f.read.flags)
 
 -- a part of the text, by its bytes; none where name refused, or where it lies outside
-pub part_in : (text : List ℕ) (n : Named) (s l : ℕ) → n ≡ named.Part s l → s ≤ length text → l ≤ length text - s → take (s + l - s)
-    (drop s text) ≡ part_of text n
+pub part_in : (text : List ℕ) (n : Named) (p : Stretch) → n ≡ Ok p → p.start ≤ length text → p.len ≤ length text - p.start
+    → take (p.start + p.len - p.start) (drop p.start text) ≡ part_of text n
 unfolding part_of
-part_in text n s l e a b =
-    let m : s + l - s ≡ l = omega arith in
-    rw (e, m, le-leb (s + l) (length text) (omega arith))
+part_in text n p e a b =
+    let m : p.start + p.len - p.start ≡ p.len = omega arith in
+    rw (e, m, le-leb (p.start + p.len) (length text) (omega arith))
 
-pub part-refused : (text : List ℕ) (n : Named) (f : Refusal) → n ≡ named.Refused f → [] ≡ part_of text n
+pub part-refused : (text : List ℕ) (n : Named) (f : Refusal) → n ≡ Err f → [] ≡ part_of text n
 unfolding part_of
 part-refused text n f e = rw e
 
-pub part_out : (text : List ℕ) (n : Named) (s l : ℕ) → n ≡ named.Part s l → length text < s + l → [] ≡ part_of text n
+pub part_out : (text : List ℕ) (n : Named) (p : Stretch) → n ≡ Ok p → length text < p.start + p.len → [] ≡ part_of text n
 unfolding part_of
-part_out text n s l e h = rw (e, lt-leb (s + l) (length text) h)
+part_out text n p e h = rw (e, lt-leb (p.start + p.len) (length text) h)
 
 -- ---- no second answer
 pub read-unique : (text room : List ℕ) (a b : Parsed) (o p : List ℕ) → ReadSays text room a o → ReadSays text room b p → (a ≡ b) × (o ≡ p)

@@ -1,22 +1,29 @@
 -- What read and name answer, and what the room then holds.
-use Rattle.std.specs.Prelude.{ℕ, zero, suc, ◌+◌, ◌*◌, ◌≡◌, List, [], ◌∷◌, ◌++◌, length, take, drop, leb}
+use Rattle.std.specs.Prelude.{ℕ, zero, suc, ◌+◌, ◌*◌, ◌≡◌, List, [], ◌∷◌, ◌++◌, length, take, drop, leb, Result, Ok, Err}
 use Rattle.ground.specs.Choice.{choose}
 use Rattle.notation.specs.Walk.{Flag}
 use Rattle.notation.specs.Guard.{connectives}
 use Rattle.notation.specs.Triplets.{literal, triplets, numbers}
 use Rattle.notation.specs.Reading.{Reading, refusal, guard, reading}
-use Rattle.reading.specs.declared.parse.Parsed.{Parsed}
-use Rattle.reading.specs.declared.parse.Parsed.TheVariants as parsed
-use Rattle.reading.specs.declared.name.Named.{Named}
-use Rattle.reading.specs.declared.name.Named.TheVariants as named
+use Rattle.notation.specs.declared.refusal.Refusal.{Refusal}
+use Rattle.reading.specs.declared.parse.Guard as counted
+use Rattle.reading.specs.declared.name.Stretch.{Stretch}
+
+-- the numbers of a guard, or the refusal of its text
+abbrev pub Parsed : Type 0
+Parsed = Result counted.Guard Refusal
+
+-- the part of a text where a flag's code stands, or a refusal
+abbrev pub Named : Type 0
+Named = Result Stretch Refusal
 
 -- the refusal with this number at this place
 abbrev pub refused_with : ℕ → ℕ → Parsed
-refused_with k p = parsed.Refused (record { number = k; place = p })
+refused_with k p = Err (record { number = k; place = p })
 
 -- a guard with n flags, c triplets and this root literal
 abbrev pub guard_with : ℕ → ℕ → ℕ → Parsed
-guard_with n c r = parsed.Guard (record { flags = n; count = c; root = r })
+guard_with n c r = Ok (record { flags = n; count = c; root = r })
 
 -- read needs three numbers a triplet: it answers the guard, or refusal 10 where the room is too small
 unfoldable pub read_answer : Reading → ℕ → Parsed
@@ -35,13 +42,17 @@ pub record ReadSays (text room : List ℕ) (r : Parsed) (after : List ℕ) : Typ
 
 -- name's refusal with this number at this place
 abbrev pub unnamed : ℕ → ℕ → Named
-unnamed k p = named.Refused (record { number = k; place = p })
+unnamed k p = Err (record { number = k; place = p })
+
+-- the part with this first byte and length
+abbrev pub part_with : ℕ → ℕ → Named
+part_with s l = Ok (record { start = s; len = l })
 
 -- the part of the text where flag i of the list first stands, i counted from 1; a number that no flag has is refused 11
 unfoldable pub name_in : List Flag → ℕ → Named
 name_in [] i = unnamed 11 0
 name_in (f ∷ u) zero = unnamed 11 0
-name_in (f ∷ u) (suc zero) = named.Part f.place (length f.name)
+name_in (f ∷ u) (suc zero) = part_with f.place (length f.name)
 name_in (f ∷ u) (suc (suc i)) = name_in u (suc i)
 
 -- what name answers
@@ -51,5 +62,5 @@ name_answer (guard g u) i = name_in u i
 
 -- the bytes of a part of the text; a refusal hands back none
 unfoldable pub part_of : List ℕ → Named → List ℕ
-part_of text (named.Part start len) = choose (leb (start + len) (length text)) (take len (drop start text)) []
-part_of text (named.Refused f) = []
+part_of text (Ok p) = choose (leb (p.start + p.len) (length text)) (take p.len (drop p.start text)) []
+part_of text (Err f) = []

@@ -4,61 +4,58 @@ ghost use Rattle.notation.specs.Reading.{reading};
 ghost use Rattle.reading.specs.Service.{name_answer, part_of};
 ghost use Rattle.reading.specs.clauses.Parsing.{Spans, named_in};
 
-use crate::parse::{Parsed, parse};
+use crate::parse::parse;
 use notation::ceilings::{CODES_ROOM, TRIPLETS_ROOM};
 use notation::refusal::Refusal;
 
 // The part of a text that is a flag's code, by its first byte and length.
 #[derive(Clone, Copy)]
-pub enum Named {
-    Part { start: usize, len: usize },
-    Refused(Refusal),
+pub struct Stretch {
+    pub start: usize,
+    pub len: usize,
 }
 
+// No flag has this number.
+const UNNAMED: Refusal = Refusal {
+    number: 11,
+    place: 0,
+};
+
 // The code of flag i, counted from 1, in the table of codes.
-fn named_at(codes: &[usize], flags: usize, i: u64) -> Named
+fn named_at(codes: &[usize], flags: usize, i: u64) -> Result<Stretch, Refusal>
     requires { Spans codes.now flags }
     ensures { result ≡ named_in codes.now flags i }
 {
     if i < 1 {
-        return Named::Refused(Refusal {
-            number: 11,
-            place: 0,
-        });
+        return Err(UNNAMED);
     }
     if (flags as u64) < i {
-        return Named::Refused(Refusal {
-            number: 11,
-            place: 0,
-        });
+        return Err(UNNAMED);
     }
     let place = (i - 1) as usize;
     let start = codes[2 * place];
     let next = codes[2 * place + 1];
-    Named::Part {
+    Ok(Stretch {
         start,
         len: next - start,
-    }
+    })
 }
 
 // Where flag i of a text's guard first stands.
-pub fn name(text: &[u8], i: u64) -> Named
+pub fn name(text: &[u8], i: u64) -> Result<Stretch, Refusal>
     ensures { result ≡ name_answer (reading text.now) i }
 {
     let mut codes = [0usize; CODES_ROOM];
     let mut out = [0u16; TRIPLETS_ROOM];
-    let parsed = parse(text, &mut codes, &mut out);
-    match parsed {
-        Parsed::Refused(refusal) => Named::Refused(refusal),
-        Parsed::Guard(guard) => named_at(&codes, guard.flags, i),
-    }
+    let guard = parse(text, &mut codes, &mut out)?;
+    named_at(&codes, guard.flags, i)
 }
 
 // The part itself, out of the very text lent; empty where name refused.
-pub fn part(text: &[u8], named: Named) -> &[u8]
+pub fn part(text: &[u8], named: Result<Stretch, Refusal>) -> &[u8]
     ensures { result.now ≡ part_of text.now named }
 {
-    let Named::Part { start, len } = named else {
+    let Ok(Stretch { start, len }) = named else {
         return &text[0..0];
     };
     if text.len() < start {

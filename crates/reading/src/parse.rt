@@ -23,20 +23,14 @@ pub struct Guard {
     pub root: u16,
 }
 
-#[derive(Clone, Copy)]
-pub enum Parsed {
-    Guard(Guard),
-    Refused(Refusal),
-}
-
 // The refusal that a place holds.
-fn unread(at: &[usize; PLACE]) -> Parsed
-    ensures { result ≡ Parsed.Refused (refusal_in at.now) }
+fn unread(at: &[usize; PLACE]) -> Refusal
+    ensures { result ≡ refusal_in at.now }
 {
-    Parsed::Refused(Refusal {
+    Refusal {
         number: at[NUMBER],
         place: at[START],
-    })
+    }
 }
 
 fn is_end(kind: Kind) -> bool
@@ -54,18 +48,18 @@ fn is_end(kind: Kind) -> bool
 }
 
 // A guard, if the text ends after it.
-fn ended(at: &[usize; PLACE], root: u16) -> Parsed
+fn ended(at: &[usize; PLACE], root: u16) -> Result<Guard, Refusal>
     ensures { result ≡ ended_as (part root at.now) }
 {
     let kind = kind_of(at[KIND]);
     if is_end(kind) {
-        return Parsed::Guard(Guard {
+        return Ok(Guard {
             flags: at[SEEN],
             count: at[COUNT],
             root,
         });
     }
-    Parsed::Refused(Refusal {
+    Err(Refusal {
         number: 5,
         place: at[START],
     })
@@ -79,7 +73,7 @@ pub fn parse_from(
     flags: usize,
     codes: &mut [usize; CODES_ROOM],
     out: &mut [u16; TRIPLETS_ROOM],
-) -> Parsed
+) -> Result<Guard, Refusal>
     requires codes_len { (length codes.old ≡ codes_room) × (length out.old ≡ 3 * connective_ceiling) }
     requires from_in_bounds { (from ≤ length text.now) × (flags ≤ flag_ceiling) }
     requires in_text { InText text.now codes.old flags }
@@ -88,7 +82,7 @@ pub fn parse_from(
         codes.new out.new }
 {
     if TEXT < text.len() - from {
-        return Parsed::Refused(Refusal {
+        return Err(Refusal {
             number: 1,
             place: from + TEXT,
         });
@@ -98,18 +92,22 @@ pub fn parse_from(
     at[SEEN] = flags;
     let first = token_at(text, &mut at);
     let Step::Taken = first else {
-        return unread(&at);
+        return Err(unread(&at));
     };
     let mut wait = [0u16; CONNECTIVES];
     let whole = same(text, &mut at, 0, codes, out, &mut wait);
     let Answer::Found(root) = whole else {
-        return unread(&at);
+        return Err(unread(&at));
     };
     ended(&at, root)
 }
 
 // The guard of a text, or its refusal. A refusal may have changed the lent tables.
-pub fn parse(text: &[u8], codes: &mut [usize; CODES_ROOM], out: &mut [u16; TRIPLETS_ROOM]) -> Parsed
+pub fn parse(
+    text: &[u8],
+    codes: &mut [usize; CODES_ROOM],
+    out: &mut [u16; TRIPLETS_ROOM],
+) -> Result<Guard, Refusal>
     requires { (length codes.old ≡ codes_room) × (length out.old ≡ 3 * connective_ceiling) }
     ensures { ParseSays text.now (reading text.now) result codes.new out.new }
 {

@@ -9,10 +9,7 @@ use Rattle.notation.specs.Reading.{Reading, refusal, guard}
 use Rattle.notation.specs.clauses.Cut.{ends}
 use Rattle.notation.specs.clauses.Codes.{codes_room, start_of, end_of, flags_in, InText}
 use Rattle.operands.specs.clauses.Steps.{Part}
-use Rattle.reading.specs.declared.parse.Parsed.{Parsed}
-use Rattle.reading.specs.declared.name.Named.{Named}
-use Rattle.reading.specs.declared.name.Named.TheVariants as named
-use Rattle.reading.specs.Service.{guard_with, refused_with, unnamed}
+use Rattle.reading.specs.Service.{Parsed, Named, guard_with, refused_with, part_with, unnamed}
 
 -- the last number of the table of refusals
 abbrev pub last_refusal : ℕ
@@ -45,5 +42,5 @@ pub record Spans (codes : List ℕ) (k : ℕ) : Type 0 where
 
 -- the part that code i of the table is, i counted from 1
 abbrev pub named_in : List ℕ → ℕ → ℕ → Named
-named_in codes k i = choose (ltb 0 i) (choose (leb i k) (named.Part (start_of codes (i - 1)) (end_of codes (i - 1) - start_of codes (i - 1)))
+named_in codes k i = choose (ltb 0 i) (choose (leb i k) (part_with (start_of codes (i - 1)) (end_of codes (i - 1) - start_of codes (i - 1)))
     (unnamed 11 0)) (unnamed 11 0)

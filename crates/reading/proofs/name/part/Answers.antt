@@ -9,12 +9,12 @@ returns-in_default c =
 
 pub returns-then-text-start : goal.returns-then-text-start
 returns-then-text-start c =
-    part_out c.args.text.now c.args.named c.in-Part.start c.in-Part.len c.in-Part.is (omega arith)
+    part_out c.args.text.now c.args.named c.in-Ok.field-0 c.in-Ok.is (omega arith)
 
 pub returns-then-text-start-2 : goal.returns-then-text-start-2
 returns-then-text-start-2 c =
-    part_out c.args.text.now c.args.named c.in-Part.start c.in-Part.len c.in-Part.is (omega arith)
+    part_out c.args.text.now c.args.named c.in-Ok.field-0 c.in-Ok.is (omega arith)
 
 pub returns : goal.returns
 returns c =
-    part_in c.args.text.now c.args.named c.in-Part.start c.in-Part.len c.in-Part.is (omega arith) (omega arith)
+    part_in c.args.text.now c.args.named c.in-Ok.field-0 c.in-Ok.is (omega arith) (omega arith)

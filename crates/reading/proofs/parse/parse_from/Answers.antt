@@ -1,5 +1,6 @@
 -- `reading::parse::parse_from` meets its contract: the first token, the loosest level and the end each refuse as the walk does.
-use mathlib.Core.Path.{refl, sym, subst}
+use mathlib.Core.Path.{refl, sym, ap, subst}
+use Rattle.std.specs.Prelude.{Err}
 use Prim.Native.Nat.{◌+◌}
 use Rattle.notation.specs.Ceilings.{text_ceiling}
 use Rattle.notation.specs.clauses.Codes.{flags_in}
@@ -17,12 +18,12 @@ returns-then-text-from-gt-TEXT c =
 pub returns-in_default : goal.returns-in_default
 returns-in_default c =
     faulty-first (before c.args.from c.args.flags) c.token_at-first.ensures c.if-text-from-gt-TEXT.false c.args.codes.now c.in_default.is
-    c.unread.ensures c.args.codes.now c.args.out.now
+    (ap Err c.unread.ensures) c.args.codes.now c.args.out.now
 
 pub returns-in_default-whole : goal.returns-in_default-whole
 returns-in_default-whole c =
     refused-first (before c.args.from c.args.flags) c.token_at-first.ensures c.if-text-from-gt-TEXT.false c.args.codes.now c.in-Taken.is c.same-whole.ensures
-    c.in_default-whole.is c.unread-in_default-whole.ensures
+    c.in_default-whole.is (ap Err c.unread-in_default-whole.ensures)
 
 pub returns : goal.returns
 returns c =
