@@ -1,13 +1,16 @@
 -- What evaluate answers, for every text and every number.
-use Rattle.std.specs.Prelude.{ℕ, ◌^◌, length, ltb}
+use Rattle.std.specs.Prelude.{ℕ, ◌^◌, Bool, length, ltb, Result, Ok, Err}
 use Rattle.ground.specs.Choice.{choose}
 use Rattle.notation.specs.Reading.{Reading, refusal, guard}
 use Rattle.truth.specs.Value.{value}
-use Rattle.evaluate.specs.declared.Evaluation.{Evaluation}
-use Rattle.evaluate.specs.declared.Evaluation.TheVariants.{Value, Refused}
+use Rattle.notation.specs.declared.refusal.Refusal.{Refusal}
+
+-- a value, or a refusal
+abbrev pub Evaluation : Type 0
+Evaluation = Result Bool Refusal
 
 -- a refusal of reading is answered; then a number that is no state is refused 9; else the guard's value in the state
 unfoldable pub evaluated : Reading → ℕ → Evaluation
-evaluated (refusal number p) state = Refused (record { number = number; place = p })
+evaluated (refusal number p) state = Err (record { number = number; place = p })
 evaluated (guard g codes) state =
-    choose (ltb state (2 ^ length codes)) (Value (value (length codes) state g)) (Refused (record { number = 9; place = 0 }))
+    choose (ltb state (2 ^ length codes)) (Ok (value (length codes) state g)) (Err (record { number = 9; place = 0 }))

@@ -7,34 +7,23 @@ ghost use Rattle.evaluate.specs.Evaluated.{evaluated};
 
 use notation::ceilings::{CODES_ROOM, TRIPLETS_ROOM};
 use notation::refusal::Refusal;
-use reading::parse::{Parsed, parse};
+use reading::parse::parse;
 use truth::states::is_state;
 use truth::values::root_value;
 
-// The value of a guard, or why the text or the state is refused.
-#[derive(Clone, Copy)]
-pub enum Evaluation {
-    Value(bool),
-    Refused(Refusal),
-}
-
-// The value of the guard of a text in a state.
-pub fn evaluate(text: &[u8], state: u64) -> Evaluation
+// The value of the guard of a text in a state, or why the text or the state is refused.
+pub fn evaluate(text: &[u8], state: u64) -> Result<bool, Refusal>
     ensures { result ≡ evaluated (reading text.now) state }
 {
     let mut codes = [0usize; CODES_ROOM];
     let mut triplets = [0u16; TRIPLETS_ROOM];
-    let parsed = parse(text, &mut codes, &mut triplets);
-    let guard = match parsed {
-        Parsed::Refused(refusal) => return Evaluation::Refused(refusal),
-        Parsed::Guard(guard) => guard,
-    };
+    let guard = parse(text, &mut codes, &mut triplets)?;
     if !is_state(state, guard.flags) {
-        return Evaluation::Refused(Refusal {
+        return Err(Refusal {
             number: 9,
             place: 0,
         });
     }
     let value = root_value(&triplets, guard.count, guard.root, guard.flags, state);
-    Evaluation::Value(value)
+    Ok(value)
 }

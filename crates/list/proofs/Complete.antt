@@ -13,10 +13,9 @@ use lib.Seq.{get_or-take, get_or-append-add, get_or-drop, take_all}
 use Rattle.notation.specs.Guard.{Guard}
 use Rattle.truth.specs.Value.{value}
 use Rattle.gaps.specs.declared.writing.Found.TheVariants.{Done, More}
-use Rattle.list.specs.declared.Listing.{Listing}
 use Rattle.gaps.specs.Gaps.{false_from, gaps_from}
 use Rattle.gaps.specs.Writing.{found, placed}
-use Rattle.list.specs.Listed.{Lists, Among, Ascends}
+use Rattle.list.specs.Listed.{Listing, Lists, Among, Ascends}
 use Rattle.gaps.proofs.Ascending.{false-not, false-one}
 use Rattle.ground.proofs.Cases.{either}
 

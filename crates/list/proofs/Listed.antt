@@ -15,19 +15,19 @@ use Rattle.reading.proofs.Serving as serving
 use Rattle.truth.specs.clauses.Computed.{root_value, Triplets}
 use Rattle.read_truth.proofs.Begun.{read_flags, read-begins, read-triplets}
 use Rattle.gaps.specs.declared.writing.Found.{Found}
-use Rattle.list.specs.declared.Listing.TheVariants.{Gaps, Refused}
+use Rattle.std.specs.Prelude.{Ok, Err}
 use Rattle.gaps.specs.Gaps.{false_from, gaps_from}
 use Rattle.gaps.specs.clauses.Rows.{Writes}
 use Rattle.list.specs.Listed.{listed, filled, Lists}
 use Rattle.list.proofs.OfGuard.{guard-gaps}
 
 module _ (text : List ℕ) (start : ℕ) (out : List ℕ) where
-  pub lists-refusal : (f : Refusal) → reading text ≡ refusal f.number f.place → Lists text start out (Refused f) out
+  pub lists-refusal : (f : Refusal) → reading text ≡ refusal f.number f.place → Lists text start out (Err f) out
   unfolding listed filled
   lists-refusal f e = record { answers = rw e refl; holds = rw e refl }
 
   module _ (x : counted.Guard) (codes xs : List ℕ) (f : serving.Found text (reading text) x codes xs) where
-    pub lists-no-state : ltb start (2 ^ x.flags) ≡ false → Lists text start out (Refused (record { number = 9; place = 0 })) out
+    pub lists-no-state : ltb start (2 ^ x.flags) ≡ false → Lists text start out (Err (record { number = 9; place = 0 })) out
     unfolding listed filled
     lists-no-state h =
         let late : ltb start (2 ^ length f.flags) ≡ false = rw (read_flags text x codes xs f) at h in
@@ -41,7 +41,7 @@ module _ (text : List ℕ) (start : ℕ) (out : List ℕ) where
         (read-triplets text x codes xs f long, omega arith)
 
     pub lists-gaps : ltb start (2 ^ x.flags) ≡ true → (r : Found) (after : List ℕ)
-        → Writes out 0 (false_from (root_value x.flags xs x.count x.root) start (2 ^ x.flags - start)) r after → Lists text start out (Gaps r) after
+        → Writes out 0 (false_from (root_value x.flags xs x.count x.root) start (2 ^ x.flags - start)) r after → Lists text start out (Ok r) after
     unfolding listed filled
     lists-gaps h r after w =
         let soon : ltb start (2 ^ length f.flags) ≡ true = rw (read_flags text x codes xs f) at h in
@@ -49,4 +49,4 @@ module _ (text : List ℕ) (start : ℕ) (out : List ℕ) where
         guard-gaps x.flags x.count x.root f.tree xs (read-begins text x codes xs f) start
         ∙ ap (λ (n : ℕ). gaps_from n f.tree start) (read_flags text x codes xs f) in
         let w' : Writes out 0 (gaps_from (length f.flags) f.tree start) r after = rw gaps at w in
-        record { answers = rw (f.says, soon) (ap Gaps w'.answers); holds = rw (f.says, soon) w'.holds }
+        record { answers = rw (f.says, soon) (ap Ok w'.answers); holds = rw (f.says, soon) w'.holds }

@@ -1,17 +1,21 @@
 -- What list answers, and what the lent slice holds afterwards, for every text, every start and every slice.
-use Rattle.std.specs.Prelude.{ℕ, ◌^◌, ◌<◌, ◌≡◌, List, [], ◌∷◌, ◌⊎◌, length, ltb}
+use Rattle.std.specs.Prelude.{ℕ, ◌^◌, ◌<◌, ◌≡◌, List, [], ◌∷◌, ◌⊎◌, length, ltb, Result, Ok, Err}
 use Rattle.ground.specs.Choice.{choose}
 use Rattle.notation.specs.Reading.{Reading, refusal, guard, reading}
-use Rattle.list.specs.declared.Listing.{Listing}
-use Rattle.list.specs.declared.Listing.TheVariants.{Gaps, Refused}
+use Rattle.notation.specs.declared.refusal.Refusal.{Refusal}
+use Rattle.gaps.specs.declared.writing.Found.{Found}
 use Rattle.gaps.specs.Gaps.{gaps_from}
 use Rattle.gaps.specs.Writing.{found, placed}
 
+-- what became of the gaps, or a refusal
+abbrev pub Listing : Type 0
+Listing = Result Found Refusal
+
 -- a refusal of reading is answered; then a start that is no state is refused 9; else the gaps from the start on are written, as far as there is room
 unfoldable pub listed : Reading → ℕ → ℕ → Listing
-listed (refusal number p) start room = Refused (record { number = number; place = p })
+listed (refusal number p) start room = Err (record { number = number; place = p })
 listed (guard g codes) start room =
-    choose (ltb start (2 ^ length codes)) (Gaps (found (gaps_from (length codes) g start) room)) (Refused (record { number = 9; place = 0 }))
+    choose (ltb start (2 ^ length codes)) (Ok (found (gaps_from (length codes) g start) room)) (Err (record { number = 9; place = 0 }))
 
 -- the slice holds the gaps from the start on, as many as it has room for; a refusal leaves it alone
 unfoldable pub filled : Reading → ℕ → List ℕ → List ℕ

@@ -6,34 +6,23 @@ ghost use Rattle.list.specs.Listed.{Lists};
 use gaps::writing::Found;
 use notation::ceilings::{CODES_ROOM, TRIPLETS_ROOM};
 use notation::refusal::Refusal;
-use reading::parse::{Parsed, parse};
+use reading::parse::parse;
 use search::search;
 use truth::states::is_state;
 
-// The gaps that were found, or why the text or the start is refused.
-#[derive(Clone, Copy)]
-pub enum Listing {
-    Gaps(Found),
-    Refused(Refusal),
-}
-
-// Writes the gaps of a text from `start` on, ascending, as many as there is room for.
-pub fn list(text: &[u8], start: u64, out: &mut [u32]) -> Listing
+// Writes the gaps of a text from `start` on, ascending, as many as there is room for; or tells why the text or the start is refused.
+pub fn list(text: &[u8], start: u64, out: &mut [u32]) -> Result<Found, Refusal>
     ensures { Lists text.now start out.old result out.new }
 {
     let mut codes = [0usize; CODES_ROOM];
     let mut triplets = [0u16; TRIPLETS_ROOM];
-    let parsed = parse(text, &mut codes, &mut triplets);
-    let guard = match parsed {
-        Parsed::Refused(refusal) => return Listing::Refused(refusal),
-        Parsed::Guard(guard) => guard,
-    };
+    let guard = parse(text, &mut codes, &mut triplets)?;
     if !is_state(start, guard.flags) {
-        return Listing::Refused(Refusal {
+        return Err(Refusal {
             number: 9,
             place: 0,
         });
     }
     let found = search(&triplets, guard.count, guard.root, guard.flags, start, out);
-    Listing::Gaps(found)
+    Ok(found)
 }

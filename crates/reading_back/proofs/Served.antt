@@ -14,9 +14,7 @@ use Rattle.notation.specs.Walk.{Flag}
 use Rattle.notation.specs.Guard.{Guard, connectives}
 use Rattle.notation.specs.Triplets.{literal, triplets, numbers}
 use Rattle.notation.specs.Reading.{Reading, reading, guard}
-use Rattle.reading.specs.Service.{ReadSays, read_answer, room_after, guard_with, name_in, name_answer, part_of}
-use Rattle.reading.specs.declared.parse.Parsed.{Parsed}
-use Rattle.reading.specs.declared.name.Named.TheVariants as named
+use Rattle.reading.specs.Service.{ReadSays, read_answer, room_after, guard_with, name_in, name_answer, part_of, part_with, Parsed}
 use Rattle.ground.proofs.Cases.{either}
 use Rattle.reading_back.specs.Written.{order, place_in, renumbered, before, flags_of, written, Placed, EachPlaced, WithinCeilings}
 use Rattle.reading_back.proofs.Levels.{renamed-connectives}
@@ -49,7 +47,7 @@ no_bytes (b ∷ c) e = absurd (omega arith)
 take_within : (n : ℕ) (l : List ℕ) → length (take n l) ≤ length l
 take_within n l = rw length-take (min-le_right n (length l))
 
-part-of : (text : List ℕ) (f : Flag) → Placed text f → part_of text (named.Part f.place (length f.name)) ≡ f.name
+part-of : (text : List ℕ) (f : Flag) → Placed text f → part_of text (part_with f.place (length f.name)) ≡ f.name
 unfolding part_of
 part-of text f e =
     let long : length f.name ≤ length (drop f.place text) = rw e at (take_within (length f.name) (drop f.place text)) in

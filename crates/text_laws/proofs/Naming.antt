@@ -11,19 +11,18 @@ use Rattle.notation.specs.Walk.{Flag, known}
 use Rattle.notation.specs.Guard.{Guard}
 use Rattle.notation.specs.Grammar.{number}
 use Rattle.notation.specs.Reading.{Reading, reading, guard}
-use Rattle.reading.specs.Service.{name_in, name_answer, part_of}
-use Rattle.reading.specs.declared.name.Named.TheVariants as named
+use Rattle.reading.specs.Service.{name_in, name_answer, part_of, part_with}
 use Rattle.reading.proofs.Serving.{part_in}
 use Rattle.text_laws.specs.Texts.{seen_in, Stands, IsFlag}
 use Rattle.text_laws.proofs.Found.{is_read}
 use Rattle.text_laws.proofs.Flags.{Own, own_in}
 use Rattle.text_laws.proofs.Standing.{text-spelt, Ascending, text-ascending, First, firsts}
 
-name_in_lem : (u : List Flag) (i : ℕ) (f : Flag) → IsFlag i f u → name_in u i ≡ named.Part f.place (length f.name)
+name_in_lem : (u : List Flag) (i : ℕ) (f : Flag) → IsFlag i f u → name_in u i ≡ part_with f.place (length f.name)
 unfolding name_in
 name_in_lem [] i f e = absurd e
 name_in_lem (g ∷ u) zero f e = absurd e
-name_in_lem (g ∷ u) (suc zero) f e = ap (λ (h : Flag). named.Part h.place (length h.name)) (sym e)
+name_in_lem (g ∷ u) (suc zero) f e = ap (λ (h : Flag). part_with h.place (length h.name)) (sym e)
 name_in_lem (g ∷ u) (suc (suc i)) f e = name_in_lem u (suc i) f e
 
 -- the place of each flag of a text is where its code first stands
@@ -43,15 +42,15 @@ module _ (text : List ℕ) (g : Guard) (u : List Flag) (read : reading text ≡ 
     name-first = first-in (tokens text) i f (text-ascending text) (subst (λ (v : List Flag). IsFlag i f v) seen_all is)
 
     -- the part that name gives for flag i is where its code first stands, and the bytes there are the code
-    pub name-is-code : (name_answer (reading text) i ≡ named.Part f.place (length f.name)) × (part_of text (name_answer (reading text) i) ≡ f.name)
+    pub name-is-code : (name_answer (reading text) i ≡ part_with f.place (length f.name)) × (part_of text (name_answer (reading text) i) ≡ f.name)
     unfolding name_answer
     name-is-code =
-        let part : name_answer (reading text) i ≡ named.Part f.place (length f.name) = ap (λ (r : Reading). name_answer r i) read ∙ name_in_lem u i f is in
+        let part : name_answer (reading text) i ≡ part_with f.place (length f.name) = ap (λ (r : Reading). name_answer r i) read ∙ name_in_lem u i f is in
         let there : (take (length f.name) (drop f.place text) ≡ f.name) × (f.place + length f.name ≤ length text) =
         text-spelt text f.place f.name name-first.0 in
         let long : f.place + length f.name - f.place ≡ length f.name = omega arith in
         let cut : take (f.place + length f.name - f.place) (drop f.place text) ≡ part_of text (name_answer (reading text) i) =
-        part_in text (name_answer (reading text) i) f.place (length f.name) part (omega (arith, there.1)) (omega (arith, there.1)) in
+        part_in text (name_answer (reading text) i) (record { start = f.place; len = length f.name }) part (omega (arith, there.1)) (omega (arith, there.1)) in
         (part, sym cut ∙ ap (λ (n : ℕ). take n (drop f.place text)) long ∙ there.0)
 
     -- a flag is found by its code under its own number
