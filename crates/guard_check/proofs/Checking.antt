@@ -12,15 +12,15 @@ use Rattle.notation.specs.declared.refusal.Refusal.{Refusal}
 use Rattle.reading.specs.declared.parse.Guard as counted
 use Rattle.reading.proofs.Serving.{Found}
 use Rattle.read_truth.proofs.Begun.{read_flags, read-begins, read-triplets}
-use Rattle.guard_check.specs.Check.{depth_ceiling, asked, ReadingSays, CheckSays}
+use Rattle.guard_check.specs.Check.{depth_ceiling, asked, Checking, ReadingSays, CheckSays}
 use Rattle.guard_check.specs.clauses.Deciding.{FromGuard, Decided}
 use Rattle.saturation.specs.Answer.{Checked}
 use Rattle.saturation.specs.declared.verdict.Verdict.{Verdict}
-use Rattle.saturation.specs.declared.verdict.Verdict.TheVariants.{Refused}
+use Rattle.std.specs.Prelude.{Ok, Err}
 use Rattle.guard_check.proofs.Tables.{guard-says}
 
 -- what is said of what was asked is what check says
-says : (text : List ℕ) (depth : ℕ) (R : Reading) (r : Verdict) → asked text depth ≡ R → ReadingSays R depth r → CheckSays text depth r
+says : (text : List ℕ) (depth : ℕ) (R : Reading) (r : Checking) → asked text depth ≡ R → ReadingSays R depth r → CheckSays text depth r
 says text depth R r e h = subst (λ (x : Reading). ReadingSays x depth r) (sym e) h
 
 pub asks-long : (text : List ℕ) (depth : ℕ) → text_ceiling < length text → asked text depth ≡ refusal 1 text_ceiling
@@ -36,12 +36,12 @@ unfolding asked
 asks-text text depth h d = rw (le-leb (length text) text_ceiling h, le-leb depth depth_ceiling d)
 
 -- a text over its ceiling
-pub too_long : (text : List ℕ) (depth : ℕ) → text_ceiling < length text → CheckSays text depth (Refused (record { number = 1; place = text_ceiling }))
+pub too_long : (text : List ℕ) (depth : ℕ) → text_ceiling < length text → CheckSays text depth (Err (record { number = 1; place = text_ceiling }))
 too_long text depth h = says text depth (refusal 1 text_ceiling) _ (asks-long text depth h) refl
 
 -- a depth over its ceiling
 pub too-deep : (text : List ℕ) (depth : ℕ) → length text ≤ text_ceiling → depth_ceiling < depth → CheckSays text depth
-    (Refused (record { number = 2; place = 0 }))
+    (Err (record { number = 2; place = 0 }))
 too-deep text depth h d = says text depth (refusal 2 0) _ (asks-deep text depth h d) refl
 
 -- a guard in the tables is one that can be decided
@@ -52,17 +52,17 @@ from-tables text codes out x f l =
 
 module _ (text : List ℕ) (depth : ℕ) (h : length text ≤ text_ceiling) (d : depth ≤ depth_ceiling) where
   -- a refusal of the text is passed on
-  pub refused-too : (f : Refusal) → reading text ≡ refusal f.number f.place → CheckSays text depth (Refused f)
-  refused-too f e = says text depth (refusal f.number f.place) (Refused f) (asks-text text depth h d ∙ e) refl
+  pub refused-too : (f : Refusal) → reading text ≡ refusal f.number f.place → CheckSays text depth (Err f)
+  refused-too f e = says text depth (refusal f.number f.place) (Err f) (asks-text text depth h d ∙ e) refl
 
   -- what is said of its guard is said of the text
-  pub guard-too : (g : Guard) (u : List Flag) → reading text ≡ guard g u → (r : Verdict) → Checked (length u) g depth r → CheckSays text depth r
-  guard-too g u e r s = says text depth (guard g u) r (asks-text text depth h d ∙ e) s
+  pub guard-too : (g : Guard) (u : List Flag) → reading text ≡ guard g u → (v : Verdict) → Checked (length u) g depth v → CheckSays text depth (Ok v)
+  guard-too g u e v s = says text depth (guard g u) (Ok v) (asks-text text depth h d ∙ e) s
 
   -- what is decided of the tables is the verdict on the text
   pub tables-say : (codes out : List ℕ) (x : counted.Guard) (f : Found text (reading text) x codes out) (l : length out ≡ 3 * connective_ceiling)
-      (r : Verdict) → Decided out x.count x.flags x.root depth r → CheckSays text depth r
-  tables-say codes out x f l r a =
-      let s : Checked x.flags f.tree depth r =
-      guard-says out x.count x.flags x.root (from-tables text codes out x f l) depth r a in
-      guard-too f.tree f.flags f.says r (rw (read_flags text x codes out f) at s)
+      (v : Verdict) → Decided out x.count x.flags x.root depth v → CheckSays text depth (Ok v)
+  tables-say codes out x f l v a =
+      let s : Checked x.flags f.tree depth v =
+      guard-says out x.count x.flags x.root (from-tables text codes out x f l) depth v a in
+      guard-too f.tree f.flags f.says v (rw (read_flags text x codes out f) at s)

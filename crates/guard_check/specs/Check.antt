@@ -1,11 +1,11 @@
 -- What check answers for a text at a depth.
-use Rattle.std.specs.Prelude.{ℕ, ◌≡◌, List, length, leb}
+use Rattle.std.specs.Prelude.{ℕ, ◌≡◌, List, length, leb, Result, Err, IsOkAnd}
 use Rattle.notation.specs.Ceilings.{text_ceiling}
 use Rattle.ground.specs.Choice.{choose}
 use Rattle.notation.specs.Reading.{Reading, refusal, guard, reading}
 use Rattle.saturation.specs.Answer.{Checked}
 use Rattle.saturation.specs.declared.verdict.Verdict.{Verdict}
-use Rattle.saturation.specs.declared.verdict.Verdict.TheVariants.{Refused}
+use Rattle.notation.specs.declared.refusal.Refusal.{Refusal}
 
 -- the depth of a check
 abbrev pub depth_ceiling : ℕ
@@ -18,11 +18,15 @@ asked text depth =
     (choose (leb depth depth_ceiling) (reading text) (refusal 2 0))
     (refusal 1 text_ceiling)
 
+-- a verdict, or a refusal
+abbrev pub Checking : Type 0
+Checking = Result Verdict Refusal
+
 -- a refusal is passed on, and a guard is checked
-abbrev pub ReadingSays : Reading → ℕ → Verdict → Type 0
-ReadingSays (refusal k p) depth r = r ≡ Refused (record { number = k; place = p })
-ReadingSays (guard g u) depth r = Checked (length u) g depth r
+abbrev pub ReadingSays : Reading → ℕ → Checking → Type 0
+ReadingSays (refusal k p) depth r = r ≡ Err (record { number = k; place = p })
+ReadingSays (guard g u) depth r = IsOkAnd r (Checked (length u) g depth)
 
 -- what check answers
-abbrev pub CheckSays : List ℕ → ℕ → Verdict → Type 0
+abbrev pub CheckSays : List ℕ → ℕ → Checking → Type 0
 CheckSays text depth r = ReadingSays (asked text depth) depth r

@@ -4,33 +4,31 @@ ghost use Rattle.guard_check.specs.Check.{CheckSays};
 use crate::answer::answer;
 use notation::ceilings::{CODES_ROOM, TEXT, TRIPLETS_ROOM};
 use notation::refusal::Refusal;
-use reading::parse::{Parsed, parse};
+use reading::parse::parse;
 use saturation::verdict::Verdict;
 
 // The ceiling of the depth.
 pub const DEPTH: u64 = 24;
 
 // A text over its ceiling is refused first, and the depth before anything that stands in the text.
-pub fn check(text: &[u8], depth: u64) -> Verdict
+pub fn check(text: &[u8], depth: u64) -> Result<Verdict, Refusal>
     ensures { CheckSays text.now depth result }
 {
     if TEXT < text.len() {
-        return Verdict::Refused(Refusal {
+        return Err(Refusal {
             number: 1,
             place: TEXT,
         });
     }
     if DEPTH < depth {
-        return Verdict::Refused(Refusal {
+        return Err(Refusal {
             number: 2,
             place: 0,
         });
     }
     let mut codes = [0usize; CODES_ROOM];
     let mut triplets = [0u16; TRIPLETS_ROOM];
-    let parsed = parse(text, &mut codes, &mut triplets);
-    match parsed {
-        Parsed::Refused(refusal) => Verdict::Refused(refusal),
-        Parsed::Guard(guard) => answer(&triplets, guard.count, guard.flags, guard.root, depth),
-    }
+    let guard = parse(text, &mut codes, &mut triplets)?;
+    let verdict = answer(&triplets, guard.count, guard.flags, guard.root, depth);
+    Ok(verdict)
 }

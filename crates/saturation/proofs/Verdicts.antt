@@ -20,7 +20,7 @@ use Rattle.saturation.specs.Saturation.{taken, Saturated}
 use Rattle.truth.specs.clauses.Written.{Proper}
 use Rattle.saturation.specs.Answer.{flag_as, flags_as, Refuted, Trial, Answer}
 use Rattle.saturation.specs.declared.verdict.Verdict.{Verdict}
-use Rattle.saturation.specs.declared.verdict.Verdict.TheVariants.{Covered, Gap, Undecided, Refused}
+use Rattle.saturation.specs.declared.verdict.Verdict.TheVariants.{Covered, Gap, Undecided}
 use Rattle.saturation.proofs.Taking.{HoldsAll, above-taken, taken-above}
 use Rattle.saturation.proofs.Depth.{stable-rest}
 use Rattle.saturation.proofs.Truth.{AllTrue, Satisfying, agreeing, all_held, true-literal, false-literal, saturated-true, never-refuted}
@@ -158,13 +158,9 @@ module _ (D : ℕ → Type 0) (ts : List Triplet) (root k : ℕ) where
   answer-unique n Covered Covered a b = refl
   answer-unique n Covered (Gap t) a b = absurd (b.0 a)
   answer-unique n Covered Undecided a b = absurd (b.0 a)
-  answer-unique n Covered (Refused f) a b = absurd b
   answer-unique n (Gap s) Covered a b = absurd (a.0 b)
   answer-unique n (Gap s) (Gap t) a b = ap Gap (trial-unique n s t a.1 b.1)
   answer-unique n (Gap s) Undecided a b = absurd (a.2 (rw (trial-unique n s b.1.0 a.1 b.1.1) b.1.2))
-  answer-unique n (Gap s) (Refused f) a b = absurd b
   answer-unique n Undecided Covered a b = absurd (a.0 b)
   answer-unique n Undecided (Gap t) a b = absurd (b.2 (rw (trial-unique n t a.1.0 b.1 a.1.1) a.1.2))
   answer-unique n Undecided Undecided a b = refl
-  answer-unique n Undecided (Refused f) a b = absurd b
-  answer-unique n (Refused f) w a b = absurd a

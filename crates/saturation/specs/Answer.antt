@@ -4,7 +4,7 @@ use Rattle.notation.specs.Guard.{Guard}
 use Rattle.notation.specs.Triplets.{Triplet, negation, literal, triplets}
 use Rattle.saturation.specs.Saturation.{taken, Saturated, Flags}
 use Rattle.saturation.specs.declared.verdict.Verdict.{Verdict}
-use Rattle.saturation.specs.declared.verdict.Verdict.TheVariants.{Covered, Gap, Undecided, Refused}
+use Rattle.saturation.specs.declared.verdict.Verdict.TheVariants.{Covered, Gap, Undecided}
 
 -- the literal of flag i that is true where the flag is 1, or where it is 0
 abbrev pub flag_as : ℕ → ℕ → ℕ
@@ -26,12 +26,11 @@ module _ (D : ℕ → Type 0) (ts : List Triplet) (root k : ℕ) where
   Trial zero s = s ≡ 0
   Trial (suc i) s = Trial i (s / 2) × ((s % 2 ≡ 1) ↔ Refuted (flag_as (suc i) 0 ∷ flags_as i (s / 2)))
 
-  -- the answer of check for a guard of n flags, which is never refused
+  -- the answer of check for a guard of n flags
   abbrev pub Answer : ℕ → Verdict → Type 0
   Answer n Covered = Refuted []
   Answer n (Gap s) = (Refuted [] → ⊥) × Trial n s × (Refuted (flags_as n s) → ⊥)
   Answer n Undecided = (Refuted [] → ⊥) × ((s : ℕ) × Trial n s × Refuted (flags_as n s))
-  Answer n (Refused f) = ⊥
 
 -- what check answers for a guard of n flags at depth k, splitting on flags
 abbrev pub Checked : ℕ → Guard → ℕ → Verdict → Type 0

@@ -1,5 +1,4 @@
-// The verdict on a guard, or on a text.
-use notation::refusal::Refusal;
+// The verdict on a guard.
 
 // The state of a gap has the first flag as its highest bit.
 #[derive(Clone, Copy)]
@@ -7,5 +6,4 @@ pub enum Verdict {
     Covered,
     Gap(u64),
     Undecided,
-    Refused(Refusal),
 }
