@@ -23,7 +23,7 @@ use Rattle.gaps.specs.Gaps.{false_from, gaps_from}
 use Rattle.gaps.specs.Writing.{found, placed}
 use Rattle.list.specs.Listed.{Lists, listed, filled}
 use Rattle.gaps.specs.declared.writing.Found.TheVariants.{Done, More}
-use Rattle.list.specs.declared.Listing.TheVariants as listing
+use Rattle.std.specs.Prelude.{Ok, Err}
 use Rattle.starred.proofs.Checked as desk
 use Rattle.starred.specs.Table.{implication, DeskTable}
 use Rattle.ground.specs.Bytes.{bytes}
@@ -77,7 +77,7 @@ texts =
 module _ (text : List ℕ) (start : ℕ) (g : Guard) (u : List Flag) (says : reading text ≡ guard g u) where
   -- there is room for all of them
   all_listed : (l : List ℕ) → ltb start (2 ^ length u) ≡ true → gaps_from (length u) g start ≡ l
-      → (out : List ℕ) → length l ≤ length out → Lists text start out (listing.Gaps (Done (length l))) (l ++ drop (length l) out)
+      → (out : List ℕ) → length l ≤ length out → Lists text start out (Ok (Done (length l))) (l ++ drop (length l) out)
   unfolding listed filled found placed
   all_listed l state gaps out room =
       record {
@@ -87,7 +87,7 @@ module _ (text : List ℕ) (start : ℕ) (g : Guard) (u : List Flag) (says : rea
 
   -- there is room for the first of them alone
   first-listed : (l : List ℕ) (next : ℕ) (rest : List ℕ) → ltb start (2 ^ length u) ≡ true → gaps_from (length u) g start ≡ l ++ (next ∷ rest)
-      → (out : List ℕ) → length out ≡ length l → Lists text start out (listing.Gaps (More (length l) next)) l
+      → (out : List ℕ) → length out ≡ length l → Lists text start out (Ok (More (length l) next)) l
   unfolding listed filled found placed
   first-listed l next rest state gaps out room =
       let more : length out < length (l ++ (next ∷ rest)) = omega (arith, room, length-append l (next ∷ rest)) in
@@ -99,7 +99,7 @@ module _ (text : List ℕ) (start : ℕ) (g : Guard) (u : List Flag) (says : rea
       }
 
   -- the start is no state
-  start-refused : ltb start (2 ^ length u) ≡ false → (out : List ℕ) → Lists text start out (listing.Refused (record { number = 9; place = 0 })) out
+  start-refused : ltb start (2 ^ length u) ≡ false → (out : List ℕ) → Lists text start out (Err (record { number = 9; place = 0 })) out
   unfolding listed filled
   start-refused state out = record { answers = rw (says, state); holds = rw (says, state) }
 

@@ -1,5 +1,5 @@
 -- The outline's starred examples, one table: each line speaks of a text, and of what the services answer for it.
-use Rattle.std.specs.Prelude.{ℕ, ◌*◌, ◌≤◌, ◌≡◌, List, [], ◌∷◌, ◌++◌, length, drop}
+use Rattle.std.specs.Prelude.{ℕ, ◌*◌, ◌≤◌, ◌≡◌, List, [], ◌∷◌, ◌++◌, length, drop, Ok, Err}
 use Prim.Native.String.{String}
 use Rattle.notation.specs.Walk.{Flag}
 use Rattle.notation.specs.Guard.{Guard}
@@ -7,7 +7,6 @@ use Rattle.notation.specs.Triplets.{Triplet, triplet_variable, triplets}
 use Rattle.notation.specs.Reading.{guard, reading}
 use Rattle.list.specs.Listed.{Lists}
 use Rattle.gaps.specs.declared.writing.Found.TheVariants.{Done, More}
-use Rattle.list.specs.declared.Listing.TheVariants as listing
 use Rattle.guard_check.specs.Check.{CheckSays}
 use Rattle.saturation.specs.declared.verdict.Verdict.{Verdict}
 use Rattle.saturation.specs.declared.verdict.Verdict.TheVariants.{Covered, Gap, Undecided}
@@ -24,21 +23,21 @@ implication y z = record { kind = 0; y = y; z = z }
 -- from this start on, list writes these states into every slice that has room for them, leaves what lies behind, and answers done
 abbrev pub ListsAll : String → ℕ → List ℕ → Type 0
 ListsAll text start l =
-    (out : List ℕ) → length l ≤ length out → Lists (bytes text) start out (listing.Gaps (Done (length l))) (l ++ drop (length l) out)
+    (out : List ℕ) → length l ≤ length out → Lists (bytes text) start out (Ok (Done (length l))) (l ++ drop (length l) out)
 
 -- from this start on, list writes these states into every slice that has room for them alone, and answers more with the next
 abbrev pub ListsFirst : String → ℕ → List ℕ → ℕ → Type 0
 ListsFirst text start l next =
-    (out : List ℕ) → length out ≡ length l → Lists (bytes text) start out (listing.Gaps (More (length l) next)) l
+    (out : List ℕ) → length out ≡ length l → Lists (bytes text) start out (Ok (More (length l) next)) l
 
 -- from this start on, list refuses with this number at place 0, and leaves every slice alone
 abbrev pub ListRefuses : String → ℕ → ℕ → Type 0
 ListRefuses text start number =
-    (out : List ℕ) → Lists (bytes text) start out (listing.Refused (record { number = number; place = 0 })) out
+    (out : List ℕ) → Lists (bytes text) start out (Err (record { number = number; place = 0 })) out
 
 -- what check answers for the text at the depth
 abbrev pub Checks : String → ℕ → Verdict → Type 0
-Checks text depth r = CheckSays (bytes text) depth r
+Checks text depth v = CheckSays (bytes text) depth (Ok v)
 
 -- the table
 pub record DeskTable : Type 0 where

@@ -17,9 +17,10 @@ use Rattle.relation.specs.Relation.{Rel, IsRelation}
 use Rattle.saturation.specs.Saturation.{taking, SaturationOf, Flags}
 use Rattle.saturation.specs.Answer.{Answer, Checked}
 use Rattle.saturation.proofs.Taking.{above-taking, taking-holds, above-taken, taken-above}
-use Rattle.guard_check.specs.Check.{depth_ceiling, asked, ReadingSays, CheckSays}
+use Rattle.std.specs.Prelude.{Ok, Err, IsOkAnd}
+use Rattle.guard_check.specs.Check.{depth_ceiling, asked, Checking, ReadingSays, CheckSays}
 use Rattle.saturation.specs.declared.verdict.Verdict.{Verdict}
-use Rattle.saturation.specs.declared.verdict.Verdict.TheVariants.{Covered, Gap, Undecided, Refused}
+use Rattle.saturation.specs.declared.verdict.Verdict.TheVariants.{Covered, Gap, Undecided}
 use Rattle.guard_check.proofs.Checking.{asks-text}
 use Rattle.verdict_laws.specs.Trial.{Started, Tried, as-false, as-true, Through, no_flag, next-flag, Fixes, Outline, is-covered, is-gap}
 use Rattle.verdict_laws.specs.Trial.{is-undecided, OutlineSays}
@@ -115,25 +116,29 @@ module _ (ts : List Triplet) (root k n : ℕ) where
   )
 
 -- ---- of texts
-reading-answers : (x : Reading) (k : ℕ) → (r : Verdict) × ReadingSays x k r
-reading-answers (refusal number p) k = (Refused (record { number = number; place = p }), refl)
+reading-answers : (x : Reading) (k : ℕ) → (r : Checking) × ReadingSays x k r
+reading-answers (refusal number p) k = (Err (record { number = number; place = p }), refl)
 reading-answers (guard g u) k =
     let o = outline-exists (triplets 0 g) (literal 0 g) k (length u) in
-    (o.0, (outline-says (triplets 0 g) (literal 0 g) k (length u) o.0).0 o.1)
+    (Ok o.0, (outline-says (triplets 0 g) (literal 0 g) k (length u) o.0).0 o.1)
 
 -- check has an answer for every text and depth
-pub check-answers : (text : List ℕ) (depth : ℕ) → (r : Verdict) × CheckSays text depth r
+pub check-answers : (text : List ℕ) (depth : ℕ) → (r : Checking) × CheckSays text depth r
 check-answers text depth = reading-answers (asked text depth) depth
 
+same-verdict : (n : ℕ) (g : Guard) (depth : ℕ) (r : Checking) → IsOkAnd r (OutlineSays n g depth) ↔ IsOkAnd r (Checked n g depth)
+same-verdict n g depth (Ok v) = outline-says (triplets 0 g) (literal 0 g) depth n v
+same-verdict n g depth (Err f) = (λ a. a, λ a. a)
+
 -- for a text that is read, at a depth up to its ceiling, it is what the outline's trial answers on the triplets of its guard
-pub check-outline : (text : List ℕ) (read : IsRead text) (depth : ℕ) → depth ≤ depth_ceiling → (v : Verdict)
-    → CheckSays text depth v ↔ OutlineSays (length read.flags) read.tree depth v
-check-outline text read depth h v =
+pub check-outline : (text : List ℕ) (read : IsRead text) (depth : ℕ) → depth ≤ depth_ceiling → (r : Checking)
+    → CheckSays text depth r ↔ IsOkAnd r (OutlineSays (length read.flags) read.tree depth)
+check-outline text read depth h r =
     let n : ℕ = length read.flags in
     let g : Guard = read.tree in
     let short : length text ≤ text_ceiling = read_short text g read.flags read.says in
     let e : asked text depth ≡ guard g read.flags = asks-text text depth short h ∙ read.says in
-    let same : OutlineSays n g depth v ↔ Checked n g depth v = outline-says (triplets 0 g) (literal 0 g) depth n v in (
-      λ a. same.1 (subst (λ (x : Reading). ReadingSays x depth v) e a),
-      λ a. subst (λ (x : Reading). ReadingSays x depth v) (sym e) (same.0 a),
+    let same : IsOkAnd r (OutlineSays n g depth) ↔ IsOkAnd r (Checked n g depth) = same-verdict n g depth r in (
+      λ a. same.1 (subst (λ (x : Reading). ReadingSays x depth r) e a),
+      λ a. subst (λ (x : Reading). ReadingSays x depth r) (sym e) (same.0 a),
     )

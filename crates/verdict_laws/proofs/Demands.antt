@@ -19,9 +19,10 @@ use Rattle.gaps.proofs.Ascending.{false-not, false-one}
 use Rattle.truth.specs.clauses.Written.{Proper}
 use Rattle.saturation.specs.Answer.{Checked}
 use Rattle.verdict_laws.proofs.Guards.{checked-covered, checked-gap, checked-decided}
-use Rattle.guard_check.specs.Check.{depth_ceiling, ReadingSays, CheckSays}
+use Rattle.guard_check.specs.Check.{depth_ceiling, Checking, ReadingSays, CheckSays}
 use Rattle.saturation.specs.declared.verdict.Verdict.{Verdict}
-use Rattle.saturation.specs.declared.verdict.Verdict.TheVariants.{Covered, Gap, Undecided, Refused}
+use Rattle.saturation.specs.declared.verdict.Verdict.TheVariants.{Covered, Gap, Undecided}
+use Rattle.std.specs.Prelude.{Ok, Err}
 use Rattle.guard_check.proofs.Checking.{asks-long, asks-deep, asks-text}
 
 -- a number at which v is false, and below which it is true, is the first of the list
@@ -37,35 +38,37 @@ first-listed v lo (suc k) s a b f h =
     (r.0, false-not v lo k (h lo (omega arith) (omega arith)) ∙ r.1))
     (split-eq s lo)
 
+-- a verdict is no refusal
+pub verdict-no-refusal : (v : Verdict) (k p : ℕ) → ◌≡◌ {A = Checking} (Ok v) (Err (record { number = k; place = p })) → ⊥
+verdict-no-refusal v k p e = cc
+
 module _ (text : List ℕ) (g : Guard) (u : List Flag) (says : reading text ≡ guard g u) (depth : ℕ) where
   proper : Proper (length u) g
   proper = record { few = (reading-accepted text g u says).few; within = (reading-accepted text g u says).within }
 
-  -- what is said of the text and is no refusal is said of its guard
-  on-guard : (r : Verdict) → CheckSays text depth r → ((k p : ℕ) → r ≡ Refused (record { number = k; place = p }) → ⊥) → Checked (length u) g
-      depth r
-  on-guard r h n =
+  -- a verdict on the text is one on its guard
+  on-guard : (v : Verdict) → CheckSays text depth (Ok v) → Checked (length u) g depth v
+  on-guard v h =
       ⊎_elim
-      (λ (a : text_ceiling < length text). absurd (n 1 text_ceiling (subst (λ (x : Reading). ReadingSays x depth r) (asks-long text depth a) h)))
+      (λ (a : text_ceiling < length text). absurd (verdict-no-refusal v 1 text_ceiling (subst (λ (x : Reading). ReadingSays x depth (Ok v))
+      (asks-long text depth a) h)))
       (λ (a : length text ≤ text_ceiling).
       ⊎_elim
-      (λ (b : depth_ceiling < depth). absurd (n 2 0 (subst (λ (x : Reading). ReadingSays x depth r) (asks-deep text depth a b) h)))
-      (λ (b : depth ≤ depth_ceiling). subst (λ (x : Reading). ReadingSays x depth r) (asks-text text depth a b ∙ says) h)
+      (λ (b : depth_ceiling < depth). absurd (verdict-no-refusal v 2 0 (subst (λ (x : Reading). ReadingSays x depth (Ok v)) (asks-deep text depth a b) h)))
+      (λ (b : depth ≤ depth_ceiling). subst (λ (x : Reading). ReadingSays x depth (Ok v)) (asks-text text depth a b ∙ says) h)
       (lt-or-ge depth_ceiling depth))
       (lt-or-ge text_ceiling (length text))
 
   -- covered is said only where the guard is true in every state
-  pub covered-true : CheckSays text depth Covered → (s : ℕ) → value (length u) s g ≡ true
+  pub covered-true : CheckSays text depth (Ok Covered) → (s : ℕ) → value (length u) s g ≡ true
   covered-true h =
-      checked-covered (length u) g proper depth (on-guard Covered h
-      (λ k p (e : Covered ≡ Refused (record { number = k; place = p })). let z : ◌≡◌ {A = ℕ} 0 1 = cc in omega arith))
+      checked-covered (length u) g proper depth (on-guard Covered h)
 
   -- a gap that is named is the first of the list from state 0, and so a state that makes the guard false
-  pub gap-first : (s : ℕ) → CheckSays text depth (Gap s) → (l : List ℕ) × (gaps_from (length u) g 0 ≡ s ∷ l)
+  pub gap-first : (s : ℕ) → CheckSays text depth (Ok (Gap s)) → (l : List ℕ) × (gaps_from (length u) g 0 ≡ s ∷ l)
   unfolding gaps_from
   gap-first s h =
-      let c = checked-gap (length u) g proper depth s (on-guard (Gap s) h
-      (λ k p (e : Gap s ≡ Refused (record { number = k; place = p })). let z : ◌≡◌ {A = ℕ} 0 1 = cc in omega arith)) in
+      let c = checked-gap (length u) g proper depth s (on-guard (Gap s) h) in
       let below : s < 2 ^ length u = c.0 in
       first-listed (λ t. value (length u) t g) 0 (2 ^ length u - 0) s (omega arith) (rw sub-zero (omega arith)) c.1 (true_below s c.2)
     where
@@ -78,7 +81,6 @@ module _ (text : List ℕ) (g : Guard) (u : List Flag) (says : reading text ≡ 
           by_value false k = absurd (omega (arith, k refl))
 
   -- at a depth not below the number of flags the answer is never undecided
-  pub never-undecided : length u ≤ depth → CheckSays text depth Undecided → ⊥
+  pub never-undecided : length u ≤ depth → CheckSays text depth (Ok Undecided) → ⊥
   never-undecided a h =
-      checked-decided (length u) g proper depth a (on-guard Undecided h
-      (λ k p (e : Undecided ≡ Refused (record { number = k; place = p })). let z : ◌≡◌ {A = ℕ} 0 1 = cc in omega arith))
+      checked-decided (length u) g proper depth a (on-guard Undecided h)

@@ -19,39 +19,34 @@ use Rattle.notation.proofs.Accepted.{reading-accepted}
 use Rattle.reading.proofs.Parsing.{whole-too-long}
 use Rattle.truth.specs.Value.{value}
 use Rattle.evaluate.specs.Evaluated.{evaluated}
-use Rattle.evaluate.specs.declared.Evaluation.TheVariants as evaluation
 use Rattle.gaps.specs.Gaps.{gaps_from}
 use Rattle.gaps.specs.Writing.{found, placed}
 use Rattle.gaps.specs.declared.writing.Found.{Found}
 use Rattle.gaps.specs.declared.writing.Found.TheVariants.{Done, More}
 use Rattle.gaps.proofs.Written.{found-done}
 use Rattle.gaps.proofs.Ascending.{false-none}
-use Rattle.list.specs.Listed.{listed, filled, Lists, Among, Ascends}
-use Rattle.list.specs.declared.Listing.{Listing}
-use Rattle.list.specs.declared.Listing.TheVariants as listing
+use Rattle.list.specs.Listed.{Listing, listed, filled, Lists, Among, Ascends}
+use Rattle.std.specs.Prelude.{Ok, Err}
 use Rattle.list.proofs.Complete.{gaps-exact, gaps-ascend, placed-written, found-all-or-more}
 use Rattle.truth.specs.clauses.Written.{Proper}
 use Rattle.verdict_laws.proofs.Guards.{checked-full, checked-full-gap}
-use Rattle.guard_check.specs.Check.{depth_ceiling, ReadingSays, CheckSays}
-use Rattle.saturation.specs.declared.verdict.Verdict.{Verdict}
-use Rattle.saturation.specs.declared.verdict.Verdict.TheVariants.{Covered, Gap, Undecided, Refused}
+use Rattle.guard_check.specs.Check.{depth_ceiling, Checking, ReadingSays, CheckSays}
+use Rattle.saturation.specs.declared.verdict.Verdict.TheVariants.{Covered, Gap}
 use Rattle.guard_check.proofs.Checking.{asks-long, asks-deep, asks-text, guard-too}
-use Rattle.verdict_laws.proofs.Demands.{covered-true, gap-first}
+use Rattle.verdict_laws.proofs.Demands.{verdict-no-refusal, covered-true, gap-first}
 use Rattle.verdict_laws.specs.Together.{IsRead, NoRefusal, GapTogether, CoveredTogether, NoneTogether, NextTogether}
 
 -- ---- a verdict that is no refusal is on a text that is read
-not-refused : (k p : ℕ) (r : Verdict) → NoRefusal r → r ≡ Refused (record { number = k; place = p }) → ⊥
-not-refused k p Covered h e = let z : ◌≡◌ {A = ℕ} 0 1 = cc in omega arith
-not-refused k p (Gap s) h e = let z : ◌≡◌ {A = ℕ} 0 1 = cc in omega arith
-not-refused k p Undecided h e = let z : ◌≡◌ {A = ℕ} 0 1 = cc in omega arith
-not-refused k p (Refused f) h e = h
+not-refused : (k p : ℕ) (r : Checking) → NoRefusal r → r ≡ Err (record { number = k; place = p }) → ⊥
+not-refused k p (Ok v) h e = verdict-no-refusal v k p e
+not-refused k p (Err f) h e = h
 
-read-when : (text : List ℕ) (depth : ℕ) (r : Verdict) → NoRefusal r → (x : Reading) → reading text ≡ x → ReadingSays x depth r → IsRead text
+read-when : (text : List ℕ) (depth : ℕ) (r : Checking) → NoRefusal r → (x : Reading) → reading text ≡ x → ReadingSays x depth r → IsRead text
 read-when text depth r n (refusal k p) e h = absurd (not-refused k p r n h)
 read-when text depth r n (guard g u) e h = record { tree = g; flags = u; says = e }
 
 -- the text of each verdict that is no refusal is read
-pub verdict-read : (text : List ℕ) (depth : ℕ) (r : Verdict) → NoRefusal r → CheckSays text depth r → IsRead text
+pub verdict-read : (text : List ℕ) (depth : ℕ) (r : Checking) → NoRefusal r → CheckSays text depth r → IsRead text
 verdict-read text depth r n h =
     ⊎_elim
     (λ (a : text_ceiling < length text). absurd (not-refused 1 text_ceiling r n (subst (λ (x : Reading). ReadingSays x depth r) (asks-long text depth a) h)))
@@ -90,12 +85,12 @@ proper text g u e = record { few = (reading-accepted text g u e).few; within = (
 
 -- ---- evaluate and list in a state of a guard
 module _ (text : List ℕ) (g : Guard) (u : List Flag) (says : reading text ≡ guard g u) where
-  evaluates : (t : ℕ) → t < 2 ^ length u → evaluated (reading text) t ≡ evaluation.Value (value (length u) t g)
+  evaluates : (t : ℕ) → t < 2 ^ length u → evaluated (reading text) t ≡ Ok (value (length u) t g)
   unfolding evaluated
   evaluates t h = rw (says, lt-ltb t (2 ^ length u) h)
 
   answers : (start : ℕ) → start < 2 ^ length u → (out : List ℕ) (answer : Listing) (after : List ℕ) → Lists text start out answer after
-      → (answer ≡ listing.Gaps (found (gaps_from (length u) g start) (length out))) × (after ≡ placed (gaps_from (length u) g start) out)
+      → (answer ≡ Ok (found (gaps_from (length u) g start) (length out))) × (after ≡ placed (gaps_from (length u) g start) out)
   unfolding listed filled
   answers start h out answer after l =
       let soon : ltb start (2 ^ length u) ≡ true = lt-ltb start (2 ^ length u) h in
@@ -133,10 +128,10 @@ module _ (text : List ℕ) (g : Guard) (u : List Flag) (says : reading text ≡ 
     gap-together : GapTogether text s
     gap-together =
         record {
-          false-there = evaluates s first-exact.1 ∙ ap evaluation.Value first-exact.2;
-          true-before = λ t h. evaluates t (omega (arith, first-exact.1)) ∙ ap evaluation.Value (first-before t h);
+          false-there = evaluates s first-exact.1 ∙ ap Ok first-exact.2;
+          true-before = λ t h. evaluates t (omega (arith, first-exact.1)) ∙ ap Ok (first-before t h);
           first = λ out answer after h p. ap (λ (m : List ℕ). get_or m 0 0) (answers 0 zero-state out answer after h).1 ∙ first-written out p;
-          next = λ out answer after h p. (answers 0 zero-state out answer after h).0 ∙ ap listing.Gaps (rw p first_next);
+          next = λ out answer after h p. (answers 0 zero-state out answer after h).0 ∙ ap Ok (rw p first_next);
         }
 
   -- ---- no gap
@@ -148,7 +143,7 @@ module _ (text : List ℕ) (g : Guard) (u : List Flag) (says : reading text ≡ 
   covered-together h =
       record {
         read = record { tree = g; flags = u; says = says };
-        all_true = λ t l. evaluates t l ∙ ap evaluation.Value (h t);
+        all_true = λ t l. evaluates t l ∙ ap Ok (h t);
         none = λ start l out answer after m.
             let a = answers start l out answer after m in
             (rw (none_from h start, found_none (length out)) at a.0, rw (none_from h start, placed-none out) at a.1);
@@ -188,34 +183,34 @@ module _ (text : List ℕ) (g : Guard) (u : List Flag) (says : reading text ≡ 
 -- ---- the laws
 module _ (text : List ℕ) (depth : ℕ) where
   -- a gap that check names, at any depth, is where evaluate is false, and what list has first
-  pub gap-says : (s : ℕ) → CheckSays text depth (Gap s) → GapTogether text s
+  pub gap-says : (s : ℕ) → CheckSays text depth (Ok (Gap s)) → GapTogether text s
   gap-says s h =
-      let r : IsRead text = verdict-read text depth (Gap s) tt h in
+      let r : IsRead text = verdict-read text depth (Ok (Gap s)) tt h in
       let f = gap-first text r.tree r.flags r.says depth s h in
       gap-together text r.tree r.flags r.says s f.0 f.1
 
   -- where check says covered, at any depth, evaluate is true in every state, and list has nothing
-  pub covered-says : CheckSays text depth Covered → CoveredTogether text
+  pub covered-says : CheckSays text depth (Ok Covered) → CoveredTogether text
   covered-says h =
-      let r : IsRead text = verdict-read text depth Covered tt h in
+      let r : IsRead text = verdict-read text depth (Ok Covered) tt h in
       covered-together text r.tree r.flags r.says (covered-true text r.tree r.flags r.says depth h)
 
 -- ---- from list to check
-lists-when : (text : List ℕ) (start room : ℕ) (x : Reading) (f : Found) → reading text ≡ x → listing.Gaps f ≡ listed x start room → IsRead text
+lists-when : (text : List ℕ) (start room : ℕ) (x : Reading) (f : Found) → reading text ≡ x → Ok f ≡ listed x start room → IsRead text
 unfolding listed
 lists-when text start room (refusal k p) f e h = let z : ◌≡◌ {A = ℕ} 0 1 = cc in absurd (omega arith)
 lists-when text start room (guard g u) f e h = record { tree = g; flags = u; says = e }
 
 -- a text whose gaps are listed is read
-lists-read : (text : List ℕ) (start : ℕ) (out : List ℕ) (f : Found) (after : List ℕ) → Lists text start out (listing.Gaps f) after → IsRead text
+lists-read : (text : List ℕ) (start : ℕ) (out : List ℕ) (f : Found) (after : List ℕ) → Lists text start out (Ok f) after → IsRead text
 lists-read text start out f after l = lists-when text start (length out) (reading text) f refl l.answers
 
 -- what is answered of the gaps from state 0 on
 listed-first : (text : List ℕ) (g : Guard) (u : List Flag) (says : reading text ≡ guard g u) (out : List ℕ) (f : Found) (after : List ℕ)
-    → Lists text 0 out (listing.Gaps f) after → f ≡ found (gaps_from (length u) g 0) (length out)
+    → Lists text 0 out (Ok f) after → f ≡ found (gaps_from (length u) g 0) (length out)
 listed-first text g u says out f after l =
-    let e : listing.Gaps f ≡ listing.Gaps (found (gaps_from (length u) g 0) (length out)) =
-    (answers text g u says 0 (zero-state text g u says) out (listing.Gaps f) after l).0 in
+    let e : Ok f ≡ Ok (found (gaps_from (length u) g 0) (length out)) =
+    (answers text g u says 0 (zero-state text g u says) out (Ok f) after l).0 in
     cc
 
 no_length : (l : List ℕ) → 0 ≡ length l → l ≡ []
@@ -240,7 +235,7 @@ next-first l room s e =
     (found-all-or-more l room)
 
 -- where list from state 0 on has nothing, check names no gap, and says covered from the number of flags up
-pub none-says : (text out after : List ℕ) → Lists text 0 out (listing.Gaps (Done 0)) after → NoneTogether text
+pub none-says : (text out after : List ℕ) → Lists text 0 out (Ok (Done 0)) after → NoneTogether text
 none-says text out after l =
     let r : IsRead text = lists-read text 0 out (Done 0) after l in
     let f : Done 0 ≡ found (gaps_from (length r.flags) r.tree 0) (length out) =
@@ -248,7 +243,7 @@ none-says text out after l =
     none-together text r.tree r.flags r.says (no_length _ (found-done out _ 0 f).1)
 
 -- where it answers more with none written, check names the next one, and no other, and names it from the number of flags up
-pub next-says : (text out after : List ℕ) (s : ℕ) → Lists text 0 out (listing.Gaps (More 0 s)) after → NextTogether text s
+pub next-says : (text out after : List ℕ) (s : ℕ) → Lists text 0 out (Ok (More 0 s)) after → NextTogether text s
 next-says text out after s l =
     let r : IsRead text = lists-read text 0 out (More 0 s) after l in
     let f = next-first _ (length out) s (listed-first text r.tree r.flags r.says out (More 0 s) after l) in
