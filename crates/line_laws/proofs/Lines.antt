@@ -10,7 +10,7 @@ use lib.Dec.{leb, ltb}
 use Rattle.ground.specs.Choice.{choose}
 use Rattle.ground.proofs.Cases.{lt-or-ge}
 use Rattle.notation.specs.Ceilings.{flag_ceiling}
-use Rattle.packs.specs.Refusals.{fault}
+use Rattle.notation.specs.Refusals.{fault}
 use Rattle.notation.specs.Walk.{Flag}
 use Rattle.notation.specs.Guard.{Guard, connectives}
 use Rattle.notation.specs.Reading as read

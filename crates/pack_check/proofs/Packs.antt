@@ -6,7 +6,7 @@ use native.Mathlib.Omega.{arith}
 use lib.ListN.{length}
 use borrow.Author.Tests.{le-leb, lt-leb}
 use Rattle.notation.specs.Ceilings.{connective_ceiling}
-use Rattle.packs.specs.Refusals.{fault}
+use Rattle.notation.specs.Refusals.{fault}
 use Rattle.notation.specs.declared.refusal.Refusal.{Refusal}
 use Rattle.guard_check.specs.Check.{depth_ceiling}
 use Rattle.questions.specs.clauses.Laying.{LineHeld, spans_room}

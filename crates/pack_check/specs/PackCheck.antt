@@ -1,7 +1,7 @@
 -- What the check of a line pack answers at a depth: for the whole line, and for the first pair of variants that is not covered.
 use Rattle.std.specs.Prelude.{ℕ, ◌≤◌, ◌<◌, ◌≡◌, ◌⊎◌, List, length, leb}
 use Rattle.ground.specs.Choice.{choose}
-use Rattle.packs.specs.Refusals.{fault}
+use Rattle.notation.specs.Refusals.{fault}
 use Rattle.notation.specs.Guard.{Guard}
 use Rattle.saturation.specs.Answer.{Checked}
 use Rattle.saturation.specs.declared.verdict.Verdict.{Verdict}

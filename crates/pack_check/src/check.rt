@@ -9,7 +9,7 @@ use crate::asking::{ask_pairs, ask_whole};
 use crate::verdict::PackVerdict;
 use guard_check::check::DEPTH;
 use notation::ceilings::{CODES_ROOM, TRIPLETS_ROOM};
-use packs::faults::fault;
+use notation::refusal::{Refusal, fault};
 use packs::read::{Pack, read_pack};
 use questions::SPANS_ROOM;
 

@@ -11,7 +11,7 @@ use lib.Dec.{leb, eqb}
 use borrow.Author.Tests.{leb-false}
 use Rattle.ground.specs.Choice.{choose}
 use Rattle.ground.proofs.Cases.{either, lt-or-ge}
-use Rattle.packs.specs.Refusals.{fault}
+use Rattle.notation.specs.Refusals.{fault}
 use Rattle.notation.specs.declared.refusal.Refusal.{Refusal}
 use Rattle.notation.specs.Ceilings.{text_ceiling, flag_ceiling, bracket_ceiling, connective_ceiling}
 use Rattle.notation.specs.Tokens.{Tokens, stray, long, code, hash, bang, sign, opening, closing, end, at, token_of, further, tokens_from, tokens_at}

@@ -2,7 +2,7 @@
 use Rattle.std.specs.Prelude.{ℕ, zero, suc, ◌/◌, ◌%◌, ◌≡◌, List, [], ◌∷◌, ◌++◌, length}
 use Prim.Native.String.{String}
 use Rattle.ground.specs.Bytes.{bytes}
-use Rattle.packs.specs.Refusals.{fault}
+use Rattle.notation.specs.Refusals.{fault}
 use Rattle.notation.specs.Walk.{Flag}
 use Rattle.notation.specs.Tokens.{or, and}
 use Rattle.notation.specs.Guard.{flag, negated, joined}

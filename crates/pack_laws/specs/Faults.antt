@@ -1,6 +1,6 @@
 -- The faults of a pack: that of the first field that has one, and whatever may be found after it.
 use Rattle.std.specs.Prelude.{ℕ, ◌+◌, ◌≤◌, ◌<◌, ◌≡◌, ◌⊎◌, List}
-use Rattle.packs.specs.Refusals.{fault}
+use Rattle.notation.specs.Refusals.{fault}
 use Rattle.notation.specs.declared.refusal.Refusal.{Refusal}
 use Rattle.fields.specs.Fields.{header, Pieces, end, short, field, pieces_at}
 use Rattle.packs.specs.Pack.{Line, nothing, Next, refused, on, refusal, role_of, step_as, end_as}

@@ -15,7 +15,7 @@ use Rattle.notation.specs.Ceilings.{connective_ceiling}
 use Rattle.notation.specs.Guard.{connectives}
 use Rattle.notation.specs.Triplets.{literal, triplets, numbers}
 use Rattle.notation.specs.clauses.Codes.{flags_in, InText}
-use Rattle.packs.specs.Refusals.{fault}
+use Rattle.notation.specs.Refusals.{fault}
 use Rattle.notation.specs.declared.refusal.Refusal.{Refusal}
 use Rattle.notation.proofs.Coding.{flags-length}
 use Rattle.reading.proofs.Parsing.{none_seen}

@@ -2,7 +2,7 @@
 use Prim.Native.Nat.{ℕ, ◌+◌}
 use mathlib.Core.Path.{◌≡◌, sym, ap, ◌∙◌}
 use mathlib.Core.List.{List}
-use Rattle.packs.specs.Refusals.{fault}
+use Rattle.notation.specs.Refusals.{fault}
 use Rattle.notation.specs.declared.refusal.Refusal.{Refusal}
 use Rattle.fields.specs.Fields.{header, end, short, field, pieces_at}
 use Rattle.packs.specs.Pack.{Line, PackReading, refusal, role_of, Next, refused, on, step_as, end_as, pack_from}

@@ -15,7 +15,7 @@ use Rattle.notation.specs.Reading as read
 use Rattle.notation.specs.Reading.{Reading, reading_from}
 use Rattle.notation.specs.declared.refusal.Refusal.{Refusal}
 use Rattle.reading.specs.Service.{guard_with}
-use Rattle.packs.specs.Refusals.{fault}
+use Rattle.notation.specs.Refusals.{fault}
 use Rattle.reading.specs.clauses.Parsing.{ParseSays}
 use Rattle.reading.specs.declared.parse.Guard as numbers
 use Rattle.reading.specs.declared.parse.Parsed.{Parsed}

@@ -10,7 +10,7 @@ use Rattle.notation.specs.Ceilings.{connective_ceiling}
 use Rattle.notation.specs.Guard.{connectives}
 use Rattle.notation.specs.clauses.Codes.{flags_in}
 use Rattle.notation.specs.Reading.{reading_from}
-use Rattle.packs.specs.Refusals.{fault}
+use Rattle.notation.specs.Refusals.{fault}
 use Rattle.notation.specs.declared.refusal.Refusal.{Refusal}
 use Rattle.reading.specs.declared.parse.Guard as numbers
 use Rattle.reading.specs.declared.parse.Parsed.{Parsed}

@@ -1,7 +1,7 @@
 -- What a line pack says: its fields from the left, a line where no field is at fault, and last the ceiling of the questions put of it.
 use Rattle.std.specs.Prelude.{ℕ, ◌+◌, ◌-◌, List, [], ◌∷◌, ◌++◌, length, take, leb, ltb, eqb, true}
 use Rattle.ground.specs.Choice.{choose}
-use Rattle.packs.specs.Refusals.{fault}
+use Rattle.notation.specs.Refusals.{fault}
 use Rattle.notation.specs.Walk.{Flag}
 use Rattle.notation.specs.Guard.{Guard, truth}
 use Rattle.notation.specs.Reading as read

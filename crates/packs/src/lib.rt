@@ -2,7 +2,6 @@
 #![tactic(auto)]
 
 pub mod due;
-pub mod faults;
 pub mod pool;
 pub mod read;
 pub mod steps;

@@ -5,11 +5,10 @@ ghost use Rattle.packs.specs.clauses.Taken.{Rooms};
 ghost use Rattle.packs.specs.clauses.Says.{Whole, PackSays};
 
 use crate::due::Due;
-use crate::faults::fault;
 use crate::pool::note;
 use crate::steps::{Progress, Step, step_on};
 use notation::ceilings::{CODES_ROOM, CONNECTIVES, TRIPLETS_ROOM};
-use notation::refusal::Refusal;
+use notation::refusal::{Refusal, fault};
 use questions::SPANS_ROOM;
 
 // How many flags and variants a line has.

@@ -1,17 +1,16 @@
 // One field further in a pack: a step for each role that a field can have.
 ghost use Rattle.std.specs.Prelude.{◌≡◌, take};
-ghost use Rattle.packs.specs.Refusals.{fault};
+ghost use Rattle.notation.specs.Refusals.{fault};
 ghost use Rattle.notation.specs.Reading.{reading_from};
 ghost use Rattle.notation.specs.clauses.Codes.{flags_in};
 ghost use Rattle.fields.specs.clauses.Here.{FieldHere};
 ghost use Rattle.packs.specs.clauses.Says.{Going, StepAsks, StepSays, GuardAsks, GuardTakenSays, end_step};
 
 use crate::due::{Due, Role, role_of};
-use crate::faults::fault;
 use crate::pool::{keep, note, note_text};
 use fields::{Field, field_at};
 use notation::ceilings::{CODES_ROOM, TRIPLETS_ROOM};
-use notation::refusal::Refusal;
+use notation::refusal::{Refusal, fault};
 use questions::{SPANS_ROOM, VARIANTS};
 use reading::parse::{Parsed, parse_from};
 

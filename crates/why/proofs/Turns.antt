@@ -28,8 +28,9 @@ use Rattle.freeing.proofs.Freeing.{free-below}
 use Rattle.why.specs.Numbered.{state_with}
 use Rattle.why.specs.Kept.{Forces, every, without, Went}
 use Rattle.why.specs.clauses.Keeping.{none_found, Decides, Turned, Keeping}
-use Rattle.why.specs.Explained.{fault, Explains}
-use Rattle.why.specs.declared.Explanation.TheVariants.{Kept, Refused}
+use Rattle.why.specs.Explained.{Explains}
+use Rattle.std.specs.Prelude.{Ok, Err}
+use Rattle.notation.specs.Refusals.{fault}
 use Rattle.why.proofs.Stating.{state-bit}
 use Rattle.why.proofs.Masks.{stays, mask-every, mask-without}
 use Rattle.why.proofs.Forcing.{none-where-room, forced-decides}
@@ -147,14 +148,14 @@ keeping-same : (n m : ℕ) (v w : ℕ → Bool) (gap keep : ℕ) → n ≡ m →
 keeping-same n m v w gap keep e f k = rw (← e, ← f) k
 
 module _ (text : List ℕ) (state : ℕ) where
-  pub explains-refusal : (f : Refusal) → reading text ≡ refusal f.number f.place → Explains (reading text) state (Refused f)
+  pub explains-refusal : (f : Refusal) → reading text ≡ refusal f.number f.place → Explains (reading text) state (Err f)
   explains-refusal f e = rw e refl
 
   module _ (x : counted.Guard) (codes xs : List ℕ) (f : serving.Found text (reading text) x codes xs) where
-    pub explains-no-state : ltb state (2 ^ x.flags) ≡ false → (k : Refusal) → k ≡ fault 9 0 → Explains (reading text) state (Refused k)
+    pub explains-no-state : ltb state (2 ^ x.flags) ≡ false → (k : Refusal) → k ≡ fault 9 0 → Explains (reading text) state (Err k)
     explains-no-state h k e =
         let late : ltb state (2 ^ length f.flags) ≡ false = rw (read_flags text x codes xs f) at h in
-        rw (f.says, late) (ap Refused e)
+        rw (f.says, late) (ap Err e)
 
     of_tree : (s : ℕ) → root_value x.flags xs x.count x.root s ≡ value (length f.flags) s f.tree
     of_tree s = written-value x.flags x.count x.root f.tree xs (read-begins text x codes xs f) s
@@ -162,19 +163,19 @@ module _ (text : List ℕ) (state : ℕ) where
 
     pub explains-no-gap : ltb state (2 ^ x.flags) ≡ true → root_value x.flags xs x.count x.root state ≡ true → (k : Refusal)
         → k ≡ fault 16 0
-        → Explains (reading text) state (Refused k)
+        → Explains (reading text) state (Err k)
     explains-no-gap h e k d =
         let soon : ltb state (2 ^ length f.flags) ≡ true = rw (read_flags text x codes xs f) at h in
         let v : value (length f.flags) state f.tree ≡ true = sym (of_tree state) ∙ e in
-        rw (f.says, soon, v) (ap Refused d)
+        rw (f.says, soon, v) (ap Err d)
 
     pub explains-kept : ltb state (2 ^ x.flags) ≡ true → root_value x.flags xs x.count x.root state ≡ false
         → (keep : ℕ) → Keeping x.flags (root_value x.flags xs x.count x.root) state x.flags keep
-        → Explains (reading text) state (Kept keep)
+        → Explains (reading text) state (Ok keep)
     explains-kept h e keep k =
         let soon : ltb state (2 ^ length f.flags) ≡ true = rw (read_flags text x codes xs f) at h in
         let v : value (length f.flags) state f.tree ≡ false = sym (of_tree state) ∙ e in
         let t : Keeping (length f.flags) (λ s. value (length f.flags) s f.tree) state (length f.flags) keep =
         keeping-same x.flags (length f.flags) (root_value x.flags xs x.count x.root) (λ s. value (length f.flags) s f.tree) state
         keep (read_flags text x codes xs f) (fun_ext of_tree) k in
-        rw (f.says, soon, v) (t.0, t.1, ap Kept t.2)
+        rw (f.says, soon, v) (t.0, t.1, ap Ok t.2)

@@ -11,9 +11,9 @@ use Rattle.notation.specs.Reading.{Reading, refusal, guard}
 use Rattle.truth.specs.Value.{value}
 use Rattle.why.specs.Numbered.{state_with}
 use Rattle.why.specs.Kept.{Forces, without, Turn, Went}
-use Rattle.why.specs.Explained.{fault, KeptOf, Explains}
-use Rattle.why.specs.declared.Explanation.{Explanation}
-use Rattle.why.specs.declared.Explanation.TheVariants.{Kept, Refused}
+use Rattle.why.specs.Explained.{Explanation, KeptOf, Explains}
+use Rattle.std.specs.Prelude.{Ok, Err}
+use Rattle.notation.specs.Refusals.{fault}
 
 module _ (n : ℕ) (v : ℕ → Bool) (gap : ℕ) where
   turn-unique : (i : ℕ) (was k m : ℕ → Bool) → Turn n v gap i was k → Turn n v gap i was m → k ≡ m
@@ -41,7 +41,7 @@ module _ (n : ℕ) (v : ℕ → Bool) (gap : ℕ) where
 
 kept-unique : (n : ℕ) (g : Guard) (state : ℕ) (r s : Explanation) → KeptOf n g state r → KeptOf n g state s → r ≡ s
 kept-unique n g state r s p q =
-    p.2 ∙ ap (λ (k : ℕ → Bool). Kept (state_with n k)) (went-unique n (λ s. value n s g) state n p.0 q.0 p.1 q.1) ∙ sym q.2
+    p.2 ∙ ap (λ (k : ℕ → Bool). Ok (state_with n k)) (went-unique n (λ s. value n s g) state n p.0 q.0 p.1 q.1) ∙ sym q.2
 
 by_value : (n : ℕ) (g : Guard) (state : ℕ) (b : Bool) (x r s : Explanation)
     → choose b (r ≡ x) (KeptOf n g state r) → choose b (s ≡ x) (KeptOf n g state s) → r ≡ s
@@ -58,4 +58,4 @@ pub why-unique : (t : Reading) (state : ℕ) (r s : Explanation) → Explains t 
 why-unique (refusal number p) state r s a b = a ∙ sym b
 why-unique (guard g codes) state r s a b =
     by_state (length codes) g state (ltb state (2 ^ length codes)) (value (length codes) state g)
-    (Refused (fault 16 0)) (Refused (fault 9 0)) r s a b
+    (Err (fault 16 0)) (Err (fault 9 0)) r s a b

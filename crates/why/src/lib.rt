@@ -7,38 +7,21 @@ ghost use Rattle.truth.specs.clauses.Computed.{root_value, Triplets};
 ghost use Rattle.truth.specs.clauses.Words.{word_bits};
 ghost use Rattle.freeing.specs.clauses.Some.{keeps};
 ghost use Rattle.why.specs.Kept.{Forces};
-ghost use Rattle.why.specs.Explained.{fault, Explains};
+ghost use Rattle.why.specs.Explained.{Explains};
 ghost use Rattle.why.specs.clauses.Keeping.{none_found, Decides, Turned, Keeping};
 
 use freeing::some::fix_some;
 use freeing::triplet::negated;
 use gaps::writing::Found;
 use notation::ceilings::{CODES_ROOM, TRIPLETS_ROOM, VARIABLES};
-use notation::refusal::Refusal;
-use reading::parse::{Parsed, parse};
+use notation::refusal::{Refusal, fault};
+use reading::parse::parse;
 use search::search;
 use truth::states::is_state;
 use truth::values::root_value;
 
-// The kept flags, as a state has its flags: the first is the highest bit; or why there is no answer.
-#[derive(Clone, Copy)]
-pub enum Explanation {
-    Kept(u64),
-    Refused(Refusal),
-}
-
 // Both signs of each variable.
 const LITERALS: usize = 2 * VARIABLES;
-
-// The refusal with this number at this place.
-fn fault(number: usize, place: usize) -> Refusal
-    ensures { result ≡ fault number place }
-{
-    Refusal {
-        number: number,
-        place: place,
-    }
-}
 
 // Whether nothing was found.
 fn is_none(found: Found) -> bool
@@ -94,23 +77,20 @@ fn kept_flags(xs: &[u16], count: usize, root: u16, n: usize, state: u64) -> u64
     keep
 }
 
-// The flags of a gap that are kept, where each is dropped in its turn if the others still kept force a gap.
-pub fn why(text: &[u8], state: u64) -> Explanation
+// The flags of a gap that are kept, where each is dropped in its turn if the others still kept force a gap; or why there is no answer. They
+// stand as a state has its flags: the first is the highest bit.
+pub fn why(text: &[u8], state: u64) -> Result<u64, Refusal>
     ensures { Explains (reading text.now) state result }
 {
     let mut codes = [0usize; CODES_ROOM];
     let mut triplets = [0u16; TRIPLETS_ROOM];
-    let parsed = parse(text, &mut codes, &mut triplets);
-    let guard = match parsed {
-        Parsed::Refused(refusal) => return Explanation::Refused(refusal),
-        Parsed::Guard(guard) => guard,
-    };
+    let guard = parse(text, &mut codes, &mut triplets)?;
     if !is_state(state, guard.flags) {
-        return Explanation::Refused(fault(9, 0));
+        return Err(fault(9, 0));
     }
     if root_value(&triplets, guard.count, guard.root, guard.flags, state) {
-        return Explanation::Refused(fault(16, 0));
+        return Err(fault(16, 0));
     }
     let keep = kept_flags(&triplets, guard.count, guard.root, guard.flags, state);
-    Explanation::Kept(keep)
+    Ok(keep)
 }

@@ -13,14 +13,12 @@ use Rattle.notation.specs.Walk.{Flag}
 use Rattle.notation.specs.Guard.{Guard}
 use Rattle.notation.specs.Reading.{Reading, refusal, guard, reading}
 use Rattle.truth.specs.Value.{value}
-use Rattle.evaluate.specs.Evaluated.{evaluated}
-use Rattle.evaluate.specs.declared.Evaluation.{Evaluation}
-use Rattle.evaluate.specs.declared.Evaluation.TheVariants as evaluation
+use Rattle.evaluate.specs.Evaluated.{Evaluation, evaluated}
 use Rattle.why.specs.Numbered.{state_with}
 use Rattle.why.specs.Kept.{Forces, without, Went}
-use Rattle.why.specs.Explained.{fault, KeptOf, Explains}
-use Rattle.why.specs.declared.Explanation.{Explanation}
-use Rattle.why.specs.declared.Explanation.TheVariants.{Kept, Refused}
+use Rattle.std.specs.Prelude.{Ok, Err}
+use Rattle.notation.specs.Refusals.{fault}
+use Rattle.why.specs.Explained.{Explanation, KeptOf, Explains}
 use Rattle.why.proofs.Stating.{state-below, state-bit}
 use Rattle.why.proofs.Turns.{forces-same}
 use Rattle.why_laws.specs.Reason.{held_by, Reason, AllFalse, TextReason}
@@ -48,47 +46,47 @@ kept-reason n v gap k small here w =
 
 -- an answer of flags is no refusal, and one of its flags only
 abbrev mask_in : Explanation → ℕ
-mask_in (Kept m) = m
-mask_in (Refused f) = 0
+mask_in (Ok m) = m
+mask_in (Err f) = 0
 
 abbrev is_refused : Explanation → ℕ
-is_refused (Kept m) = 0
-is_refused (Refused f) = 1
+is_refused (Ok m) = 0
+is_refused (Err f) = 1
 
-kept-or-refused : (m : ℕ) (f : Refusal) → Kept m ≡ Refused f → ⊥
+kept-or-refused : (m : ℕ) (f : Refusal) → Ok m ≡ Err f → ⊥
 kept-or-refused m f e = let z : ◌≡◌ {A = ℕ} 0 1 = ap is_refused e in omega arith
 
 -- where flags are answered, the number is a state, and false
 by-gap : (n : ℕ) (g : Guard) (state : ℕ) (b : Bool) (m : ℕ) → b ≡ value n state g → state < 2 ^ n
-    → choose b (Kept m ≡ Refused (fault 16 0)) (KeptOf n g state (Kept m)) → Reason n (λ s. value n s g) state m
+    → choose b (Ok m ≡ Err (fault 16 0)) (KeptOf n g state (Ok m)) → Reason n (λ s. value n s g) state m
 by-gap n g state true m e h p = absurd (kept-or-refused m (fault 16 0) p)
 by-gap n g state false m e h p =
     let k : m ≡ state_with n p.0 = ap mask_in p.2 in
     rw k (kept-reason n (λ s. value n s g) state p.0 h (sym e) p.1)
 
 by_number : (n : ℕ) (g : Guard) (state : ℕ) (a : Bool) (m : ℕ) → a ≡ ltb state (2 ^ n)
-    → choose a (choose (value n state g) (Kept m ≡ Refused (fault 16 0)) (KeptOf n g state (Kept m))) (Kept m ≡ Refused (fault 9 0))
+    → choose a (choose (value n state g) (Ok m ≡ Err (fault 16 0)) (KeptOf n g state (Ok m))) (Ok m ≡ Err (fault 9 0))
     → Reason n (λ s. value n s g) state m
 by_number n g state true m e p = by-gap n g state (value n state g) m refl (ltb-true state (2 ^ n) (sym e)) p
 by_number n g state false m e p = absurd (kept-or-refused m (fault 9 0) p)
 
 -- where why answers flags of a guard, they are the gap's reason
-pub guard-reason : (g : Guard) (codes : List Flag) (state m : ℕ) → Explains (guard g codes) state (Kept m)
+pub guard-reason : (g : Guard) (codes : List Flag) (state m : ℕ) → Explains (guard g codes) state (Ok m)
     → Reason (length codes) (λ s. value (length codes) s g) state m
 guard-reason g codes state m p = by_number (length codes) g state (ltb state (2 ^ length codes)) m refl p
 
 abbrev value_in : Evaluation → Bool
-value_in (evaluation.Value b) = b
-value_in (evaluation.Refused f) = true
+value_in (Ok b) = b
+value_in (Err f) = true
 
 module _ (text : List ℕ) (g : Guard) (codes : List Flag) (e : reading text ≡ guard g codes) where
   -- evaluate answers the guard's value in a state
-  answers-value : (s : ℕ) → s < 2 ^ length codes → evaluated (reading text) s ≡ evaluation.Value (value (length codes) s g)
+  answers-value : (s : ℕ) → s < 2 ^ length codes → evaluated (reading text) s ≡ Ok (value (length codes) s g)
   unfolding evaluated
   answers-value s h = rw (e, lt-ltb s (2 ^ length codes) h) refl
 
   all-false : (gap : ℕ) (k : ℕ → Bool) → Forces (length codes) (λ s. value (length codes) s g) gap k → AllFalse text (length codes) gap k
-  all-false gap k f s h a = answers-value s h ∙ ap evaluation.Value (f s h a)
+  all-false gap k f s h a = answers-value s h ∙ ap Ok (f s h a)
 
   forced : (gap : ℕ) (k : ℕ → Bool) → AllFalse text (length codes) gap k → Forces (length codes) (λ s. value (length codes) s g) gap k
   forced gap k f s h a = ap value_in (sym (answers-value s h) ∙ f s h a)
@@ -100,16 +98,16 @@ module _ (text : List ℕ) (g : Guard) (codes : List Flag) (e : reading text ≡
         codes = codes;
         reads = e;
         state = r.state;
-        false-here = answers-value gap r.state ∙ ap evaluation.Value r.false-here;
+        false-here = answers-value gap r.state ∙ ap Ok r.false-here;
         small = r.small;
         forces = all-false gap (held_by (length codes) m) r.forces;
         needed = λ j p q h f. r.needed j p q h (forced gap (without (held_by (length codes) m) j) f);
       }
 
-by-reading : (text : List ℕ) (t : Reading) (state m : ℕ) → reading text ≡ t → Explains t state (Kept m) → TextReason text state m
+by-reading : (text : List ℕ) (t : Reading) (state m : ℕ) → reading text ≡ t → Explains t state (Ok m) → TextReason text state m
 by-reading text (refusal number p) state m e q = absurd (kept-or-refused m (fault number p) q)
 by-reading text (guard g codes) state m e p = of_guard text g codes e state m (guard-reason g codes state m p)
 
 -- the reader's theorem: where why answers flags of a text, evaluate answers false wherever a state has the gap's values at them, and not so with one dropped
-pub why-reason : (text : List ℕ) (state m : ℕ) → Explains (reading text) state (Kept m) → TextReason text state m
+pub why-reason : (text : List ℕ) (state m : ℕ) → Explains (reading text) state (Ok m) → TextReason text state m
 why-reason text state m p = by-reading text (reading text) state m refl p

@@ -5,7 +5,7 @@ use Rattle.notation.specs.Walk.{Flag}
 use Rattle.notation.specs.Guard.{Guard}
 use Rattle.notation.specs.Reading.{guard, reading}
 use Rattle.evaluate.specs.Evaluated.{evaluated}
-use Rattle.evaluate.specs.declared.Evaluation.TheVariants.{Value}
+use Rattle.std.specs.Prelude.{Ok}
 use Rattle.why.specs.Kept.{Agrees, Forces, without}
 
 -- the flags that a number m holds, of n: those whose bit is set, the first flag the highest
@@ -22,7 +22,7 @@ pub record Reason (n : ℕ) (v : ℕ → Bool) (gap m : ℕ) : Type 0 where
 
 -- evaluate answers false in every state that has the gap's values at these flags
 abbrev pub AllFalse : List ℕ → ℕ → ℕ → (ℕ → Bool) → Type 0
-AllFalse text n gap kept = (s : ℕ) → s < 2 ^ n → Agrees n kept gap s → evaluated (reading text) s ≡ Value false
+AllFalse text n gap kept = (s : ℕ) → s < 2 ^ n → Agrees n kept gap s → evaluated (reading text) s ≡ Ok false
 
 -- what the reader of an answer may hold of the text, by what evaluate answers of it
 pub record TextReason (text : List ℕ) (gap m : ℕ) : Type 0 where
@@ -30,7 +30,7 @@ pub record TextReason (text : List ℕ) (gap m : ℕ) : Type 0 where
   pub codes : List Flag
   pub reads : reading text ≡ guard g codes
   pub state : gap < 2 ^ length codes
-  pub false-here : evaluated (reading text) gap ≡ Value false
+  pub false-here : evaluated (reading text) gap ≡ Ok false
   pub small : m < 2 ^ length codes
   pub forces : AllFalse text (length codes) gap (held_by (length codes) m)
   pub needed : (j : ℕ) → 0 < j → j ≤ length codes → bit m (length codes - j) ≡ true

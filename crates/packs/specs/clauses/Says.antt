@@ -1,7 +1,7 @@
 -- What the steps of the reader of a pack ask and answer, and what reading a pack does.
 use Rattle.std.specs.Prelude.{ℕ, suc, ◌*◌, ◌≤◌, ◌<◌, ◌≡◌, List, length, get_or, take}
 use Rattle.notation.specs.Ceilings.{flag_ceiling, connective_ceiling}
-use Rattle.packs.specs.Refusals.{fault}
+use Rattle.notation.specs.Refusals.{fault}
 use Rattle.notation.specs.Walk.{Flag}
 use Rattle.notation.specs.Guard.{Guard, connectives}
 use Rattle.notation.specs.Triplets.{literal}

@@ -1,34 +1,42 @@
 -- `why::why` meets its contract: parse tells a refusal or the guard's tables, and its flags are gone through.
 use mathlib.Core.Path.{sym, ◌∙◌}
+use Rattle.std.proofs.lemmas.Result.{err_from_is_err_and}
 use Rattle.notation.specs.Reading.{reading}
-use Rattle.reading.proofs.Serving.{guard-found}
+use Rattle.reading.proofs.Serving.{guard-found, refusal-found}
 use Rattle.read_truth.proofs.Begun.{read-triplets}
-use Rattle.why.proofs.Turns.{explains-no-gap, explains-kept}
+use Rattle.why.proofs.Turns.{explains-refusal, explains-no-gap, explains-kept}
 use borrow.Author.Rules.{rules}
 use Rattle.why.proofs.why.Goals as goal
 
+pub returns-in_err-guard : goal.returns-in_err-guard
+returns-in_err-guard c =
+    let p = err_from_is_err_and c.from_residual.result c.from_residual.ensures.1 in
+    let f = c.in_err-guard.field-0.0 in
+    rw (p.1, p.2) (explains-refusal c.args.text.now c.args.state f
+    (refusal-found c.args.text.now (reading c.args.text.now) c.parse.result c.parse.new.codes c.parse.new.out c.parse.ensures f c.in_err-guard.was))
+
 pub root_value-requires : goal.root_value-requires
 root_value-requires c =
-    let f = guard-found c.args.text.now (reading c.args.text.now) c.parse-parsed.result c.parse-parsed.new.codes c.parse-parsed.new.out
-    c.parse-parsed.ensures c.in-Guard.guard c.in-Guard.is in read-triplets c.args.text.now c.in-Guard.guard
-    c.parse-parsed.new.codes c.parse-parsed.new.out f (search rules)
+    let f = guard-found c.args.text.now (reading c.args.text.now) c.parse.result c.parse.new.codes c.parse.new.out
+    c.parse.ensures c.in_ok-guard.guard c.in_ok-guard.was in read-triplets c.args.text.now c.in_ok-guard.guard
+    c.parse.new.codes c.parse.new.out f (search rules)
 
 pub returns-then-root_value : goal.returns-then-root_value
 returns-then-root_value c =
-    let f = guard-found c.args.text.now (reading c.args.text.now) c.parse-parsed.result c.parse-parsed.new.codes c.parse-parsed.new.out
-    c.parse-parsed.ensures c.in-Guard.guard c.in-Guard.is in explains-no-gap c.args.text.now c.args.state c.in-Guard.guard
-    c.parse-parsed.new.codes c.parse-parsed.new.out f (sym c.is_state.ensures ∙ c.if-not-is_state.false)
+    let f = guard-found c.args.text.now (reading c.args.text.now) c.parse.result c.parse.new.codes c.parse.new.out
+    c.parse.ensures c.in_ok-guard.guard c.in_ok-guard.was in explains-no-gap c.args.text.now c.args.state c.in_ok-guard.guard
+    c.parse.new.codes c.parse.new.out f (sym c.is_state.ensures ∙ c.if-not-is_state.false)
     (sym c.root_value.ensures ∙ c.if-root_value.true) c.fault-then-root_value.result c.fault-then-root_value.ensures
 
 pub kept_flags-keep-requires : goal.kept_flags-keep-requires
 kept_flags-keep-requires c =
-    let f = guard-found c.args.text.now (reading c.args.text.now) c.parse-parsed.result c.parse-parsed.new.codes c.parse-parsed.new.out
-    c.parse-parsed.ensures c.in-Guard.guard c.in-Guard.is in read-triplets c.args.text.now c.in-Guard.guard
-    c.parse-parsed.new.codes c.parse-parsed.new.out f (search rules)
+    let f = guard-found c.args.text.now (reading c.args.text.now) c.parse.result c.parse.new.codes c.parse.new.out
+    c.parse.ensures c.in_ok-guard.guard c.in_ok-guard.was in read-triplets c.args.text.now c.in_ok-guard.guard
+    c.parse.new.codes c.parse.new.out f (search rules)
 
 pub returns : goal.returns
 returns c =
-    let f = guard-found c.args.text.now (reading c.args.text.now) c.parse-parsed.result c.parse-parsed.new.codes c.parse-parsed.new.out
-    c.parse-parsed.ensures c.in-Guard.guard c.in-Guard.is in explains-kept c.args.text.now c.args.state c.in-Guard.guard
-    c.parse-parsed.new.codes c.parse-parsed.new.out f (sym c.is_state.ensures ∙ c.if-not-is_state.false)
+    let f = guard-found c.args.text.now (reading c.args.text.now) c.parse.result c.parse.new.codes c.parse.new.out
+    c.parse.ensures c.in_ok-guard.guard c.in_ok-guard.was in explains-kept c.args.text.now c.args.state c.in_ok-guard.guard
+    c.parse.new.codes c.parse.new.out f (sym c.is_state.ensures ∙ c.if-not-is_state.false)
     (sym c.root_value.ensures ∙ c.if-root_value.false) c.kept_flags-keep.result c.kept_flags-keep.ensures
