@@ -9,32 +9,31 @@ use Rattle.notation.specs.clauses.Cut.{part}
 use Rattle.notation.specs.Reading.{reading}
 use Rattle.notation.specs.Ceilings.{flag_ceiling}
 use Rattle.notation.specs.declared.refusal.Refusal.{Refusal}
-use Rattle.guard_check.specs.Check.{CheckSays}
+use Rattle.std.specs.Prelude.{Option, Ok, Err}
+use Rattle.guard_check.specs.Check.{Checking, CheckSays}
 use Rattle.ground.specs.Bytes.{bytes}
-use Rattle.saturation.specs.declared.verdict.Verdict.{Verdict}
-use Rattle.saturation.specs.declared.verdict.Verdict.TheVariants.{Covered, Gap, Undecided, Refused}
+use Rattle.saturation.specs.declared.verdict.Verdict.TheVariants.{Covered, Gap, Undecided}
 use Rattle.lines.specs.Lines.{line_feed}
-use Rattle.lines.specs.Question.{question, guard_in, QuestionSays}
+use Rattle.lines.specs.Question.{asks, question, guard_in, QuestionSays}
 use Rattle.lines.specs.Printed.{decimal, valued, flags_of, answered, printed}
 use Rattle.lines.specs.clauses.Put.{Puts, PutsIn, number_room, value_room, verdict_room}
 use Rattle.lines.specs.Answer.{Answers}
 use Rattle.lines.specs.declared.question.Question.{Question}
-use Rattle.lines.specs.declared.question.Question.TheVariants.{Asks}
 use Rattle.lines.proofs.Putting.{puts_then, puts-inside}
 
 -- ---- the verdict
 pub covered-put : (text : List ℕ) {a : List ℕ} {p : ℕ} {b : List ℕ} {r : ℕ} → Puts a p (bytes "covered") b r → PutsIn verdict_room a p
-    (answered text Covered) b r
+    (answered text (Ok Covered)) b r
 unfolding answered bytes
 covered-put text f = record { puts = f; within = omega (arith, f.next) }
 
 pub undecided-put : (text : List ℕ) {a : List ℕ} {p : ℕ} {b : List ℕ} {r : ℕ} → Puts a p (bytes "undecided") b r → PutsIn verdict_room a p
-    (answered text Undecided) b r
+    (answered text (Ok Undecided)) b r
 unfolding answered bytes
 undecided-put text f = record { puts = f; within = omega (arith, f.next) }
 
 pub gap-put : (text : List ℕ) (state : ℕ) {a : List ℕ} {p : ℕ} {b : List ℕ} {q : ℕ} {c : List ℕ} {r : ℕ} → Puts a p (bytes "gap") b q
-    → PutsIn (value_room * flag_ceiling) b q (valued (flags_of (reading text)) state) c r → PutsIn verdict_room a p (answered text (Gap state)) c r
+    → PutsIn (value_room * flag_ceiling) b q (valued (flags_of (reading text)) state) c r → PutsIn verdict_room a p (answered text (Ok (Gap state))) c r
 unfolding answered bytes
 gap-put text state f g = record { puts = puts_then f g.puts; within = omega (arith, f.next, g.within) }
 
@@ -42,7 +41,7 @@ pub refusal-put : (text : List ℕ) (x : Refusal) {a : List ℕ} {p : ℕ} {b : 
     {e : List ℕ} {r : ℕ}
     → Puts a p (bytes "refused ") b q → PutsIn number_room b q (decimal x.number) c s → Puts c s (bytes " ") d t → PutsIn number_room d t
     (decimal x.place) e r
-    → PutsIn verdict_room a p (answered text (Refused x)) e r
+    → PutsIn verdict_room a p (answered text (Err x)) e r
 unfolding answered bytes
 refusal-put text x f g h i =
     record {
@@ -51,12 +50,12 @@ refusal-put text x f g h i =
     }
 
 -- what is put for a verdict is put for one equal to it
-pub verdict-as : (text : List ℕ) {v w : Verdict} → v ≡ w → {a : List ℕ} {p : ℕ} {b : List ℕ} {r : ℕ} → PutsIn verdict_room a p
+pub verdict-as : (text : List ℕ) {v w : Checking} → v ≡ w → {a : List ℕ} {p : ℕ} {b : List ℕ} {r : ℕ} → PutsIn verdict_room a p
     (answered text w) b r → PutsIn verdict_room a p (answered text v) b r
-verdict-as text e {a} {p} {b} {r} f = subst (λ (x : Verdict). PutsIn verdict_room a p (answered text x) b r) (sym e) f
+verdict-as text e {a} {p} {b} {r} f = subst (λ (x : Checking). PutsIn verdict_room a p (answered text x) b r) (sym e) f
 
 -- ---- the whole line
-pub line-put : (number : ℕ) (text : List ℕ) (v : Verdict) {a : List ℕ} {p : ℕ} {b : List ℕ} {q : ℕ} {c : List ℕ} {s : ℕ} {d : List ℕ}
+pub line-put : (number : ℕ) (text : List ℕ) (v : Checking) {a : List ℕ} {p : ℕ} {b : List ℕ} {q : ℕ} {c : List ℕ} {s : ℕ} {d : List ℕ}
     {t : ℕ} {e : List ℕ} {r : ℕ}
     → PutsIn number_room a p (decimal number) b q → Puts b q (bytes " ") c s → PutsIn verdict_room c s (answered text v) d t → Puts d t
     (line_feed ∷ []) e r → Puts a p (printed number text v) e r
@@ -64,7 +63,7 @@ unfolding printed
 line-put number text v f g h i = puts_then f.puts (puts_then g (puts_then h.puts i))
 
 -- what is put for a question is the answer to the line that asks it
-pub answers : (number : ℕ) (line : List ℕ) (q : Question) (v : Verdict) (before after : List ℕ) (r : ℕ) → q ≡ question line → QuestionSays line
+pub answers : (number : ℕ) (line : List ℕ) (q : Option Question) (v : Checking) (before after : List ℕ) (r : ℕ) → q ≡ question line → QuestionSays line
     q v
     → Puts before 0 (printed number (guard_in line q) v) after r → Answers number line before after r
 answers number line q v before after r e s p =
@@ -72,8 +71,8 @@ answers number line q v before after r e s p =
       output = printed number (guard_in line q) v;
       answer = record {
         verdict = v;
-        says = subst (λ (x : Question). QuestionSays line x v) e s;
-        text = ap (λ (x : Question). printed number (guard_in line x) v) e;
+        says = subst (λ (x : Option Question). QuestionSays line x v) e s;
+        text = ap (λ (x : Option Question). printed number (guard_in line x) v) e;
       };
       count = omega (arith, p.next);
       inside = puts-inside (omega arith) p;
@@ -81,12 +80,12 @@ answers number line q v before after r e s p =
     }
 
 -- the guard is what is left of the line
-pub answers-guard : (number : ℕ) (line : List ℕ) (depth start : ℕ) (v : Verdict) (before after : List ℕ) (r : ℕ) → Asks depth start ≡ question
+pub answers-guard : (number : ℕ) (line : List ℕ) (depth start : ℕ) (v : Checking) (before after : List ℕ) (r : ℕ) → asks depth start ≡ question
     line
     → CheckSays (part start (length line) line) depth v → Puts before 0 (printed number (part start (length line) line) v) after r → Answers number line
     before after r
 answers-guard number line depth start v before after r e s p =
     let rest : part start (length line) line ≡ drop start line = take_all (length line - start) (drop start line) (rw length-drop (omega arith)) in
-    answers number line (Asks depth start) v before after r e
+    answers number line (asks depth start) v before after r e
     (subst (λ (g : List ℕ). CheckSays g depth v) rest s)
     (subst (λ (g : List ℕ). Puts before 0 (printed number g v) after r) rest p)

@@ -10,10 +10,10 @@ use lib.Dec.{eqb, leb}
 use borrow.Author.Tests.{eq-eqb, ne_eqb, le-leb, lt-leb, eqb-true}
 use Rattle.notation.specs.Tokens.{among}
 use Rattle.ground.specs.Choice.{choose}
+use Rattle.std.specs.Prelude.{Option, Some, None}
 use Rattle.ground.proofs.Cases.{lt-or-ge}
-use Rattle.lines.specs.Question.{byte_at, is_digit, digit_value, question}
+use Rattle.lines.specs.Question.{byte_at, is_digit, digit_value, asks, question}
 use Rattle.lines.specs.declared.question.Question.{Question}
-use Rattle.lines.specs.declared.question.Question.TheVariants.{Malformed, Asks}
 
 -- ---- digits
 pub below-digits : (b : ℕ) → b < 48 → false ≡ is_digit b
@@ -34,24 +34,24 @@ digit-from b e =
 
 -- ---- the four ways that the first three bytes go
 module _ (line : List ℕ) (a b : ℕ) (ea : a ≡ byte_at line 0) (eb : b ≡ byte_at line 1) where
-  pub no_digit : is_digit a ≡ false → Malformed ≡ question line
+  pub no_digit : is_digit a ≡ false → None ≡ question line
   unfolding question
   no_digit h = rw (← ea, h)
 
-  pub one-digit : is_digit a ≡ true → b ≡ 32 → Asks (digit_value a) 2 ≡ question line
+  pub one-digit : is_digit a ≡ true → b ≡ 32 → asks (digit_value a) 2 ≡ question line
   unfolding question
   one-digit h e = rw (← ea, ← eb, h, eq-eqb b 32 e)
 
-  pub no_second : is_digit a ≡ true → (b ≡ 32 → ⊥) → is_digit b ≡ false → Malformed ≡ question line
+  pub no_second : is_digit a ≡ true → (b ≡ 32 → ⊥) → is_digit b ≡ false → None ≡ question line
   unfolding question
   no_second h n g = rw (← ea, ← eb, h, ne_eqb b 32 n, g)
 
-  pub no-space : is_digit a ≡ true → (b ≡ 32 → ⊥) → is_digit b ≡ true → (c : ℕ) → c ≡ byte_at line 2 → (c ≡ 32 → ⊥) → Malformed
+  pub no-space : is_digit a ≡ true → (b ≡ 32 → ⊥) → is_digit b ≡ true → (c : ℕ) → c ≡ byte_at line 2 → (c ≡ 32 → ⊥) → None
       ≡ question line
   unfolding question
   no-space h n g c ec m = rw (← ea, ← eb, ← ec, h, ne_eqb b 32 n, g, ne_eqb c 32 m)
 
-  pub two_digits : is_digit a ≡ true → (b ≡ 32 → ⊥) → is_digit b ≡ true → (c : ℕ) → c ≡ byte_at line 2 → c ≡ 32 → Asks
+  pub two_digits : is_digit a ≡ true → (b ≡ 32 → ⊥) → is_digit b ≡ true → (c : ℕ) → c ≡ byte_at line 2 → c ≡ 32 → asks
       (10 * digit_value a + digit_value b) 3 ≡ question line
   unfolding question
   two_digits h n g c ec e = rw (← ea, ← eb, ← ec, h, ne_eqb b 32 n, g, eq-eqb c 32 e)
@@ -65,19 +65,19 @@ space-inside line i e =
     (lt-or-ge i (length line))
 
 -- where the guard of a question starts is within n bytes
-abbrev Inside : ℕ → Question → Type 0
-Inside n Malformed = Unit {0}
-Inside n (Asks depth start) = start ≤ n
+abbrev Inside : ℕ → Option Question → Type 0
+Inside n None = Unit {0}
+Inside n (Some q) = q.start ≤ n
 
-chosen-inside : (n : ℕ) (b : Bool) (x y : Question) → (b ≡ true → Inside n x) → (b ≡ false → Inside n y) → Inside n (choose b x y)
+chosen-inside : (n : ℕ) (b : Bool) (x y : Option Question) → (b ≡ true → Inside n x) → (b ≡ false → Inside n y) → Inside n (choose b x y)
 chosen-inside n true x y f g = f refl
 chosen-inside n false x y f g = g refl
 
 question-within : (line : List ℕ) → Inside (length line) (question line)
 unfolding question
 question-within line =
-    chosen-inside (length line) (is_digit a) (choose (eqb b 32) (Asks (digit_value a) 2) rest) Malformed
-    (λ h. chosen-inside (length line) (eqb b 32) (Asks (digit_value a) 2) rest (λ e. space-inside line 1 (eqb-true b 32 e)) (λ e. rest-inside))
+    chosen-inside (length line) (is_digit a) (choose (eqb b 32) (asks (digit_value a) 2) rest) None
+    (λ h. chosen-inside (length line) (eqb b 32) (asks (digit_value a) 2) rest (λ e. space-inside line 1 (eqb-true b 32 e)) (λ e. rest-inside))
     (λ h. tt)
   where
     a : ℕ
@@ -89,18 +89,18 @@ question-within line =
     c : ℕ
     c = byte_at line 2
 
-    two : Question
-    two = choose (eqb c 32) (Asks (10 * digit_value a + digit_value b) 3) Malformed
+    two : Option Question
+    two = choose (eqb c 32) (asks (10 * digit_value a + digit_value b) 3) None
 
-    rest : Question
-    rest = choose (is_digit b) two Malformed
+    rest : Option Question
+    rest = choose (is_digit b) two None
 
     two-inside : Inside (length line) two
-    two-inside = chosen-inside (length line) (eqb c 32) (Asks (10 * digit_value a + digit_value b) 3) Malformed (λ e. space-inside line 2 (eqb-true c 32 e))
+    two-inside = chosen-inside (length line) (eqb c 32) (asks (10 * digit_value a + digit_value b) 3) None (λ e. space-inside line 2 (eqb-true c 32 e))
         (λ e. tt)
 
     rest-inside : Inside (length line) rest
-    rest-inside = chosen-inside (length line) (is_digit b) two Malformed (λ e. two-inside) (λ e. tt)
+    rest-inside = chosen-inside (length line) (is_digit b) two None (λ e. two-inside) (λ e. tt)
 
-pub guard-inside : (line : List ℕ) (depth start : ℕ) → Asks depth start ≡ question line → start ≤ length line
-guard-inside line depth start e = subst (λ (q : Question). Inside (length line) q) (sym e) (question-within line)
+pub guard-inside : (line : List ℕ) (q : Question) → Some q ≡ question line → q.start ≤ length line
+guard-inside line q e = subst (λ (x : Option Question). Inside (length line) x) (sym e) (question-within line)

@@ -7,7 +7,8 @@ use mathlib.Core.List.{List, [], ◌∷◌, ◌++◌}
 use lib.ListN.{length, drop}
 use lib.Dec.{leb}
 use Rattle.ground.proofs.Cases.{either}
-use Rattle.saturation.specs.declared.verdict.Verdict.{Verdict}
+use Rattle.std.specs.Prelude.{Option, Some, None}
+use Rattle.guard_check.specs.Check.{Checking}
 use Rattle.guard_check.proofs.Unique.{check-unique}
 use Rattle.lines.specs.Question.{question, guard_of, QuestionSays}
 use Rattle.lines.specs.Printed.{printed}
@@ -15,11 +16,10 @@ use Rattle.lines.specs.Answer.{AnswerLine, Answers}
 use Rattle.lines.specs.Lines.{lines}
 use Rattle.lines.specs.Output.{input_ceiling, AnswerLines, Output}
 use Rattle.lines.specs.declared.question.Question.{Question}
-use Rattle.lines.specs.declared.question.Question.TheVariants.{Malformed, Asks}
 
-question-unique : (line : List ℕ) (q : Question) (v w : Verdict) → QuestionSays line q v → QuestionSays line q w → v ≡ w
-question-unique line Malformed v w a b = a ∙ sym b
-question-unique line (Asks depth start) v w a b = check-unique (drop start line) depth v w a b
+question-unique : (line : List ℕ) (q : Option Question) (v w : Checking) → QuestionSays line q v → QuestionSays line q w → v ≡ w
+question-unique line None v w a b = a ∙ sym b
+question-unique line (Some q) v w a b = check-unique (drop q.start line) q.depth v w a b
 
 pub answer-line-unique : (number : ℕ) (line bytes other : List ℕ) → AnswerLine number line bytes → AnswerLine number line other → bytes ≡ other
 answer-line-unique number line bytes other a b =

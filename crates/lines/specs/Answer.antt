@@ -1,12 +1,12 @@
 -- What covercheck answers to a line.
 use Rattle.std.specs.Prelude.{ℕ, ◌≤◌, ◌≡◌, List, ◌++◌, length, drop}
-use Rattle.saturation.specs.declared.verdict.Verdict.{Verdict}
+use Rattle.guard_check.specs.Check.{Checking}
 use Rattle.lines.specs.Question.{guard_of, LineSays}
 use Rattle.lines.specs.Printed.{printed}
 
 -- the bytes are the output line for a line with this number
 pub record AnswerLine (number : ℕ) (line bytes : List ℕ) : Type 0 where
-  pub verdict : Verdict
+  pub verdict : Checking
   pub says : LineSays line verdict
   pub text : bytes ≡ printed number (guard_of line) verdict
 

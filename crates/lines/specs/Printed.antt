@@ -1,12 +1,12 @@
 -- What is printed for a line.
-use Rattle.std.specs.Prelude.{ℕ, zero, suc, ◌+◌, ◌/◌, ◌%◌, Bool, List, [], ◌∷◌, ◌++◌, length, ltb}
+use Rattle.std.specs.Prelude.{ℕ, zero, suc, ◌+◌, ◌/◌, ◌%◌, Bool, List, [], ◌∷◌, ◌++◌, length, ltb, Ok, Err}
 use Rattle.ground.specs.Choice.{choose}
 use Rattle.notation.specs.Walk.{Flag}
 use Rattle.notation.specs.Reading.{Reading, refusal, guard, reading}
 use Rattle.ground.specs.Bits.{bit}
 use Rattle.ground.specs.Bytes.{bytes}
-use Rattle.saturation.specs.declared.verdict.Verdict.{Verdict}
-use Rattle.saturation.specs.declared.verdict.Verdict.TheVariants.{Covered, Gap, Undecided, Refused}
+use Rattle.guard_check.specs.Check.{Checking}
+use Rattle.saturation.specs.declared.verdict.Verdict.TheVariants.{Covered, Gap, Undecided}
 use Rattle.lines.specs.Lines.{line_feed}
 
 -- the byte of a digit
@@ -37,12 +37,12 @@ flags_of (refusal number place) = []
 flags_of (guard g u) = u
 
 -- the answer to a question on a guard
-unfoldable pub answered : List ℕ → Verdict → List ℕ
-answered text Covered = bytes "covered"
-answered text (Gap state) = bytes "gap" ++ valued (flags_of (reading text)) state
-answered text Undecided = bytes "undecided"
-answered text (Refused f) = bytes "refused " ++ (decimal f.number ++ (bytes " " ++ decimal f.place))
+unfoldable pub answered : List ℕ → Checking → List ℕ
+answered text (Ok Covered) = bytes "covered"
+answered text (Ok (Gap state)) = bytes "gap" ++ valued (flags_of (reading text)) state
+answered text (Ok Undecided) = bytes "undecided"
+answered text (Err f) = bytes "refused " ++ (decimal f.number ++ (bytes " " ++ decimal f.place))
 
 -- the line number, a space, the answer, LF
-unfoldable pub printed : ℕ → List ℕ → Verdict → List ℕ
-printed number text v = decimal number ++ (bytes " " ++ (answered text v ++ (line_feed ∷ [])))
+unfoldable pub printed : ℕ → List ℕ → Checking → List ℕ
+printed number text r = decimal number ++ (bytes " " ++ (answered text r ++ (line_feed ∷ [])))

@@ -7,12 +7,10 @@ pub fn line_end(input: &[u8], start: usize) -> usize
     requires { start < length input.now }
     ensures { LineEnd input.now start result }
 {
-    let mut at = start;
-    while at < input.len() {
+    for at in start..input.len() {
         if input[at] == b'\n' {
             return at;
         }
-        at += 1;
     }
-    at
+    input.len()
 }

@@ -11,7 +11,7 @@ ghost use Rattle.lines.specs.Printed.{flag_value, valued, flags_of};
 
 use crate::put::{put, put_all};
 use notation::ceilings::{CODES_ROOM, TRIPLETS_ROOM};
-use reading::parse::{Parsed, parse};
+use reading::parse::parse;
 
 // A bit of a state.
 fn bit_of(state: u64, i: usize) -> bool
@@ -25,10 +25,8 @@ fn put_bit(out: &mut [u8], at: usize, value: bool) -> usize
     requires { at < length out.old }
     ensures { Puts out.old at (bytes (choose value "1" "0")) out.new result }
 {
-    if value {
-        return put(out, at, b'1');
-    }
-    put(out, at, b'0')
+    let digit = if value { b'1' } else { b'0' };
+    put(out, at, digit)
 }
 
 // A space, the code of flag i of the table, `=` and its value.
@@ -60,11 +58,9 @@ fn put_values(
         out.new result }
 {
     let mut next = at;
-    let mut i = 0;
-    while i < flags {
+    for i in 0..flags {
         let value = bit_of(state, flags - 1 - i);
         next = put_flag(out, next, text, codes, i, value);
-        i += 1;
     }
     next
 }
@@ -76,9 +72,8 @@ pub fn put_flags(out: &mut [u8], at: usize, text: &[u8], state: u64) -> usize
 {
     let mut codes = [0usize; CODES_ROOM];
     let mut triplets = [0u16; TRIPLETS_ROOM];
-    let parsed = parse(text, &mut codes, &mut triplets);
-    match parsed {
-        Parsed::Refused(_) => at,
-        Parsed::Guard(guard) => put_values(out, at, text, &codes, guard.flags, state),
-    }
+    let Ok(guard) = parse(text, &mut codes, &mut triplets) else {
+        return at;
+    };
+    put_values(out, at, text, &codes, guard.flags, state)
 }

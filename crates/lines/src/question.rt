@@ -4,9 +4,9 @@ ghost use Rattle.lines.specs.Question.{byte_at, is_digit, digit_value, question}
 
 // A depth, and where the guard starts in the line.
 #[derive(Clone, Copy)]
-pub enum Question {
-    Malformed,
-    Asks { depth: u64, start: usize },
+pub struct Question {
+    pub depth: u64,
+    pub start: usize,
 }
 
 // A byte of a line, 0 past its end.
@@ -37,30 +37,30 @@ fn digit_value(b: u8) -> u64
 }
 
 // The depth and the guard of a line, if it has the form.
-pub fn question_of(line: &[u8]) -> Question
+pub fn question_of(line: &[u8]) -> Option<Question>
     ensures { result ≡ question line.now }
 {
     let first = byte_at(line, 0);
     let second = byte_at(line, 1);
     if !is_digit(first) {
-        return Question::Malformed;
+        return None;
     }
     let high = digit_value(first);
     if second == b' ' {
-        return Question::Asks {
+        return Some(Question {
             depth: high,
             start: 2,
-        };
+        });
     }
     if !is_digit(second) {
-        return Question::Malformed;
+        return None;
     }
     let low = digit_value(second);
     if byte_at(line, 2) != b' ' {
-        return Question::Malformed;
+        return None;
     }
-    Question::Asks {
+    Some(Question {
         depth: 10 * high + low,
         start: 3,
-    }
+    })
 }

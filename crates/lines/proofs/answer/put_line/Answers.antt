@@ -6,4 +6,4 @@ use Rattle.lines.proofs.answer.put_line.Goals as goal
 pub returns : goal.returns
 unfolding bytes
 returns c =
-    line-put c.args.number c.args.text.now c.args.verdict c.put_number-space.ensures c.put-answer.ensures c.put_verdict-end.ensures c.put.ensures
+    line-put c.args.number c.args.text.now c.args.verdict c.put_number-space.ensures c.put-answer.ensures c.put_answer-end.ensures c.put.ensures

@@ -1,4 +1,7 @@
 use native.Mathlib.Omega.{arith}
+use mathlib.Core.Path.{◌≡◌, subst}
+use lib.ListN.{length}
+use Rattle.lines.specs.clauses.Cutting.{LineEnd}
 use Rattle.lines.proofs.Cutting.{passed_none, passed-more, end-at-feed, end-at-end}
 use Rattle.lines.proofs.cut.line_end.Goals as goal
 
@@ -20,4 +23,5 @@ loop-at-preserved c = (
 
 pub returns : goal.returns
 returns c =
-    end-at-end c.args.input.now c.args.start c.loop-at.at c.requires (omega arith) c.loop-at.invariant.0
+    let end : c.loop-at.at ≡ length c.args.input.now = omega arith in
+    subst (LineEnd c.args.input.now c.args.start) end (end-at-end c.args.input.now c.args.start c.loop-at.at c.requires (omega arith) c.loop-at.invariant.0)

@@ -8,19 +8,18 @@ use Rattle.lines.proofs.flags.put_flags.Goals as goal
 pub put_values-requires : goal.put_values-requires
 put_values-requires c =
     let text = c.args.text.now in
-    let C = c.parse-parsed.new.codes in
-    let O = c.parse-parsed.new.out in
-    let t = parsed-table text c.in-Guard.guard C O (guard-found text (reading text) c.parse-parsed.result C O c.parse-parsed.ensures
-    c.in-Guard.guard c.in-Guard.is) in
+    let C = c.parse.new.codes in
+    let O = c.parse.new.out in
+    let t = parsed-table text c.in-Ok.guard C O (guard-found text (reading text) c.parse.result C O c.parse.ensures
+    c.in-Ok.guard c.in-Ok.is) in
     record {
       code_table = t;
       flags_in_bounds = omega (arith, t.few, c.requires);
     }
 
-pub returns-in-Refused : goal.returns-in-Refused
-returns-in-Refused c =
+pub returns-in_default : goal.returns-in_default
+returns-in_default c =
     let text = c.args.text.now in
-    let C = c.parse-parsed.new.codes in
-    let O = c.parse-parsed.new.out in
-    refused-put text c.in-Refused.field-0 (refusal-found text (reading text) c.parse-parsed.result C O c.parse-parsed.ensures c.in-Refused.field-0
-    c.in-Refused.is) c.args.state c.args.out.now c.args.at
+    let f = c.in_default.field-0 in
+    refused-put text f (refusal-found text (reading text) c.parse.result c.parse.new.codes c.parse.new.out c.parse.ensures f c.in_default.is)
+    c.args.state c.args.out.now c.args.at

@@ -1,7 +1,7 @@
-use native.Mathlib.Omega.{arith}
-use Rattle.lines.proofs.Putting.{puts-more}
+-- `lines::put::put_all` meets its contract: the bytes stand from the place on, and all else is as it was.
+use Rattle.std.proofs.Common.{arith}
+use Rattle.std.proofs.lemmas.Grind.{common_steps}
 use Rattle.lines.proofs.put.put_all.Goals as goal
 
-pub loop-i-preserved : goal.loop-i-preserved
-loop-i-preserved c =
-    (omega arith, puts-more c.args.out.now c.args.at c.args.bytes.now c.loop-i.out c.loop-i.i c.loop-i-test.true (omega arith) c.loop-i.invariant.1)
+pub returns : goal.returns
+returns c = record { next = omega arith; holds = grind (arith, common_steps); long = grind (arith, common_steps) }
