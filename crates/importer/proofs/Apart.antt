@@ -1,14 +1,16 @@
 -- A packed number can be taken apart: a payload is below 2^32, so kind and payload are read back, and no two verdicts share a number.
 use Prim.Native.Nat.{ℕ, ◌/◌, ◌%◌, ◌^◌, ◌≤◌, ◌<◌}
-use mathlib.Core.Path.{◌≡◌, refl, ap}
+use mathlib.Core.Path.{◌≡◌, refl, sym, ap}
+use Rattle.std.specs.Prelude.{Ok, Err}
+use Rattle.guard_check.specs.Check.{Checking}
 use native.Mathlib.Omega.{arith}
 use Rattle.notation.specs.Ceilings.{text_ceiling}
 use Rattle.notation.specs.declared.refusal.Refusal.{Refusal}
 use Rattle.saturation.specs.declared.verdict.Verdict.{Verdict}
-use Rattle.saturation.specs.declared.verdict.Verdict.TheVariants.{Covered, Gap, Undecided, Refused}
-use Rattle.importer.specs.Packed.{packed, packed_refusal, packed_verdict}
+use Rattle.saturation.specs.declared.verdict.Verdict.TheVariants.{Covered, Gap, Undecided}
+use Rattle.importer.specs.Packed.{packed, packed_answer, packed_refusal, packed_verdict}
 use Rattle.reading.specs.clauses.Parsing.{last_refusal}
-use Rattle.importer.specs.clauses.Fits.{RefusalFits, VerdictFits}
+use Rattle.importer.specs.clauses.Fits.{AnswerFits, RefusalFits, VerdictFits}
 
 -- the kind and the payload of a number
 pub packed-apart : (kind payload : ℕ) → payload < 2 ^ 32 → (packed kind payload / 2 ^ 32 ≡ kind) × (packed kind payload % 2 ^ 32 ≡ payload)
@@ -22,27 +24,33 @@ refusal-apart f h =
     let p : f.place ≤ text_ceiling = h.place in
     (omega arith, omega arith, omega arith)
 
-refusal-same : (n p m q : ℕ) → n ≡ m → p ≡ q → Refused (record { number = n; place = p }) ≡ Refused (record { number = m; place = q })
+refusal-same : (n p m q : ℕ) → n ≡ m → p ≡ q → ◌≡◌ {A = Checking} (Err (record { number = n; place = p })) (Err (record { number = m; place = q }))
 refusal-same n p m q a b = rw (a, b)
 
--- two verdicts with one number are the same
-pub verdict-apart : (v w : Verdict) → VerdictFits v → VerdictFits w → packed_verdict v ≡ packed_verdict w → v ≡ w
-verdict-apart Covered Covered a b e = refl
-verdict-apart Covered (Gap t) a b e = absurd (omega arith)
-verdict-apart Covered Undecided a b e = absurd (omega arith)
-verdict-apart Covered (Refused g) a b e = absurd (omega arith)
-verdict-apart (Gap s) Covered a b e = absurd (omega arith)
-verdict-apart (Gap s) (Gap t) a b e = ap Gap (omega arith)
-verdict-apart (Gap s) Undecided a b e = absurd (omega arith)
-verdict-apart (Gap s) (Refused g) a b e = absurd (omega arith)
-verdict-apart Undecided Covered a b e = absurd (omega arith)
-verdict-apart Undecided (Gap t) a b e = absurd (omega arith)
-verdict-apart Undecided Undecided a b e = refl
-verdict-apart Undecided (Refused g) a b e = absurd (omega arith)
-verdict-apart (Refused f) Covered a b e = absurd (omega arith)
-verdict-apart (Refused f) (Gap t) a b e = absurd (omega arith)
-verdict-apart (Refused f) Undecided a b e = absurd (omega arith)
-verdict-apart (Refused f) (Refused g) a b e =
+verdict-same : (v w : Verdict) → VerdictFits v → VerdictFits w → packed_verdict v ≡ packed_verdict w → v ≡ w
+verdict-same Covered Covered a b e = refl
+verdict-same Covered (Gap t) a b e = absurd (omega arith)
+verdict-same Covered Undecided a b e = absurd (omega arith)
+verdict-same (Gap s) Covered a b e = absurd (omega arith)
+verdict-same (Gap s) (Gap t) a b e = ap Gap (omega arith)
+verdict-same (Gap s) Undecided a b e = absurd (omega arith)
+verdict-same Undecided Covered a b e = absurd (omega arith)
+verdict-same Undecided (Gap t) a b e = absurd (omega arith)
+verdict-same Undecided Undecided a b e = refl
+
+-- no verdict has the number of a refusal
+verdict-refusal : (v : Verdict) (f : Refusal) → VerdictFits v → packed_verdict v ≡ packed_refusal f → ⊥
+verdict-refusal Covered f a e = omega arith
+verdict-refusal (Gap s) f a e = omega arith
+verdict-refusal Undecided f a e = omega arith
+
+-- two answers of check with one number are the same
+pub verdict-apart : (v w : Checking) → AnswerFits VerdictFits v → AnswerFits VerdictFits w
+    → packed_answer packed_verdict v ≡ packed_answer packed_verdict w → v ≡ w
+verdict-apart (Ok v) (Ok w) a b e = ap Ok (verdict-same v w a b e)
+verdict-apart (Ok v) (Err g) a b e = absurd (verdict-refusal v g a e)
+verdict-apart (Err f) (Ok w) a b e = absurd (verdict-refusal w f b (sym e))
+verdict-apart (Err f) (Err g) a b e =
     let n : f.number ≤ last_refusal = a.number in
     let p : f.place ≤ text_ceiling = a.place in
     let m : g.number ≤ last_refusal = b.number in

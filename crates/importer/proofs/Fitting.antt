@@ -17,30 +17,24 @@ use Rattle.notation.specs.Guard.{Guard, connectives}
 use Rattle.notation.specs.Triplets.{literal, literal_ceiling, triplets}
 use Rattle.notation.specs.Grammar.{tree}
 use Rattle.notation.specs.Reading.{Reading, refusal, guard, judged, reading}
-use Rattle.reading.specs.Service.{guard_with, refused_with, read_answer, unnamed, name_in, name_answer}
+use Rattle.std.specs.Prelude.{Ok, Err}
+use Rattle.reading.specs.Service.{Parsed, Named, guard_with, refused_with, read_answer, unnamed, name_in, name_answer}
 use Rattle.reading.specs.clauses.Parsing.{last_refusal}
-use Rattle.reading.specs.declared.parse.Parsed.{Parsed}
-use Rattle.reading.specs.declared.name.Named.{Named}
 use Rattle.ground.proofs.Cases.{either}
 use Rattle.notation.proofs.Accepted.{reading-accepted, reading-shape}
 use Rattle.truth.specs.Value.{value}
-use Rattle.evaluate.specs.Evaluated.{evaluated}
-use Rattle.evaluate.specs.declared.Evaluation.{Evaluation}
-use Rattle.evaluate.specs.declared.Evaluation.TheVariants as evaluation
+use Rattle.evaluate.specs.Evaluated.{Evaluation, evaluated}
 use Rattle.saturation.specs.Saturation.{Flags}
 use Rattle.saturation.proofs.Confirmed.{trial-below}
 use Rattle.gaps.specs.Gaps.{false_from, gaps_from}
 use Rattle.gaps.specs.Writing as writing
-use Rattle.list.specs.Listed.{listed}
+use Rattle.list.specs.Listed.{Listing, listed}
 use Rattle.gaps.specs.declared.writing.Found.{Found}
 use Rattle.gaps.specs.declared.writing.Found.TheVariants as found
-use Rattle.list.specs.declared.Listing.{Listing}
-use Rattle.list.specs.declared.Listing.TheVariants as listing
 use Rattle.gaps.proofs.Ascending.{false-not, false-one}
-use Rattle.guard_check.specs.Check.{depth_ceiling, asked, ReadingSays, CheckSays}
-use Rattle.saturation.specs.declared.verdict.Verdict.{Verdict}
-use Rattle.saturation.specs.declared.verdict.Verdict.TheVariants.{Covered, Gap, Undecided, Refused}
-use Rattle.importer.specs.clauses.Fits.{RefusalFits, VerdictFits, EvaluationFits, FoundFits, ListingFits, ParsedFits, NamedFits}
+use Rattle.guard_check.specs.Check.{depth_ceiling, asked, Checking, ReadingSays, CheckSays}
+use Rattle.saturation.specs.declared.verdict.Verdict.TheVariants.{Covered, Gap, Undecided}
+use Rattle.importer.specs.clauses.Fits.{AnswerFits, RefusalFits, VerdictFits, ValueFits, FoundFits, GuardFits, StretchFits}
 use Rattle.reading.proofs.Places.{choose-has, FlagsFit, OutcomeFits, text-fits}
 
 -- ---- what a text says
@@ -94,30 +88,30 @@ asked-fits text depth =
     (λ e. (omega arith, omega arith)))
     (λ h. (omega arith, omega arith))
 
-says-fits : (x : Reading) (depth : ℕ) (v : Verdict) → ReadingFits x → ReadingSays x depth v → VerdictFits v
-says-fits (refusal k p) depth v f s = subst (λ (w : Verdict). VerdictFits w) (sym s) (refusal-fits k p f)
-says-fits (guard g u) depth Covered f s = tt
-says-fits (guard g u) depth (Gap t) f s =
+says-fits : (x : Reading) (depth : ℕ) (r : Checking) → ReadingFits x → ReadingSays x depth r → AnswerFits VerdictFits r
+says-fits (refusal k p) depth r f s = subst (λ (w : Checking). AnswerFits VerdictFits w) (sym s) (refusal-fits k p f)
+says-fits (guard g u) depth (Ok Covered) f s = tt
+says-fits (guard g u) depth (Ok (Gap t)) f s =
     let below : t < 2 ^ length u = trial-below (Flags (length u)) (triplets 0 g) (literal 0 g) depth (length u) t s.1 in
     let most : 2 ^ length u ≤ 2 ^ flag_ceiling = pow_mono f.flags in
     omega arith
-says-fits (guard g u) depth Undecided f s = tt
-says-fits (guard g u) depth (Refused y) f s = absurd s
+says-fits (guard g u) depth (Ok Undecided) f s = tt
+says-fits (guard g u) depth (Err y) f s = absurd s
 
-pub check-fits : (text : List ℕ) (depth : ℕ) (v : Verdict) → CheckSays text depth v → VerdictFits v
+pub check-fits : (text : List ℕ) (depth : ℕ) (v : Checking) → CheckSays text depth v → AnswerFits VerdictFits v
 check-fits text depth v s = says-fits (asked text depth) depth v (asked-fits text depth) s
 
 -- ---- evaluate
-evaluated-fits : (x : Reading) (state : ℕ) → ReadingFits x → EvaluationFits (evaluated x state)
+evaluated-fits : (x : Reading) (state : ℕ) → ReadingFits x → AnswerFits ValueFits (evaluated x state)
 unfolding evaluated
 evaluated-fits (refusal k p) state f = refusal-fits k p f
 evaluated-fits (guard g u) state f =
-    choose-has (λ (e : Evaluation). EvaluationFits e) (ltb state (2 ^ length u)) (evaluation.Value (value (length u) state g))
-    (evaluation.Refused (record { number = 9; place = 0 }))
+    choose-has (λ (e : Evaluation). AnswerFits ValueFits e) (ltb state (2 ^ length u)) (Ok (value (length u) state g))
+    (Err (record { number = 9; place = 0 }))
     (λ h. tt) (λ h. refusal-fits 9 0 (omega arith, omega arith))
 
-pub evaluate-fits : (text : List ℕ) (state : ℕ) (r : Evaluation) → r ≡ evaluated (reading text) state → EvaluationFits r
-evaluate-fits text state r e = subst (λ (x : Evaluation). EvaluationFits x) (sym e) (evaluated-fits (reading text) state (reading-fits text))
+pub evaluate-fits : (text : List ℕ) (state : ℕ) (r : Evaluation) → r ≡ evaluated (reading text) state → AnswerFits ValueFits r
+evaluate-fits text state r e = subst (λ (x : Evaluation). AnswerFits ValueFits x) (sym e) (evaluated-fits (reading text) state (reading-fits text))
 
 -- ---- list
 -- no more numbers of a stretch are listed than it has
@@ -153,43 +147,43 @@ found-fits n g start room few h =
     choose-has (λ (x : Found). FoundFits x) (leb (length l) room) (found.Done (length l)) (found.More room (get_or l room 0)) (λ e. omega arith)
     (λ e. omega arith)
 
-listed-fits : (x : Reading) (start room : ℕ) → ReadingFits x → ListingFits (listed x start room)
+listed-fits : (x : Reading) (start room : ℕ) → ReadingFits x → AnswerFits FoundFits (listed x start room)
 unfolding listed
 listed-fits (refusal k p) start room f = refusal-fits k p f
 listed-fits (guard g u) start room f =
-    choose-has (λ (x : Listing). ListingFits x) (ltb start (2 ^ length u)) (listing.Gaps (writing.found (gaps_from (length u) g start) room))
-    (listing.Refused (record { number = 9; place = 0 }))
+    choose-has (λ (x : Listing). AnswerFits FoundFits x) (ltb start (2 ^ length u)) (Ok (writing.found (gaps_from (length u) g start) room))
+    (Err (record { number = 9; place = 0 }))
     (λ h. found-fits (length u) g start room f.flags (ltb-true start (2 ^ length u) h)) (λ h. refusal-fits 9 0 (omega arith, omega arith))
 
-pub list-fits : (text : List ℕ) (start room : ℕ) (r : Listing) → r ≡ listed (reading text) start room → ListingFits r
-list-fits text start room r e = subst (λ (x : Listing). ListingFits x) (sym e) (listed-fits (reading text) start room (reading-fits text))
+pub list-fits : (text : List ℕ) (start room : ℕ) (r : Listing) → r ≡ listed (reading text) start room → AnswerFits FoundFits r
+list-fits text start room r e = subst (λ (x : Listing). AnswerFits FoundFits x) (sym e) (listed-fits (reading text) start room (reading-fits text))
 
 -- ---- read
-answer-fits : (x : Reading) (room : ℕ) → ReadingFits x → ParsedFits (read_answer x room)
+answer-fits : (x : Reading) (room : ℕ) → ReadingFits x → AnswerFits GuardFits (read_answer x room)
 unfolding read_answer
 answer-fits (refusal k p) room f = refusal-fits k p f
 answer-fits (guard g u) room f =
-    choose-has (λ (x : Parsed). ParsedFits x) (leb (3 * connectives g) room) (guard_with (length u) (connectives g) (literal 0 g)) (refused_with 10 0)
+    choose-has (λ (x : Parsed). AnswerFits GuardFits x) (leb (3 * connectives g) room) (guard_with (length u) (connectives g) (literal 0 g)) (refused_with 10 0)
     (λ h. record { flags = f.flags; count = f.count; root = f.root }) (λ h. refusal-fits 10 0 (omega arith, omega arith))
 
-pub read_fits : (text : List ℕ) (room : ℕ) (r : Parsed) → r ≡ read_answer (reading text) room → ParsedFits r
-read_fits text room r e = subst (λ (x : Parsed). ParsedFits x) (sym e) (answer-fits (reading text) room (reading-fits text))
+pub read_fits : (text : List ℕ) (room : ℕ) (r : Parsed) → r ≡ read_answer (reading text) room → AnswerFits GuardFits r
+read_fits text room r e = subst (λ (x : Parsed). AnswerFits GuardFits x) (sym e) (answer-fits (reading text) room (reading-fits text))
 
 -- ---- name
-no-flag-fits : NamedFits (unnamed 11 0)
+no-flag-fits : AnswerFits StretchFits (unnamed 11 0)
 no-flag-fits = refusal-fits 11 0 (omega arith, omega arith)
 
-name-in-fits : (u : List Flag) (i : ℕ) → FlagsFit u → NamedFits (name_in u i)
+name-in-fits : (u : List Flag) (i : ℕ) → FlagsFit u → AnswerFits StretchFits (name_in u i)
 unfolding name_in
 name-in-fits [] i f = no-flag-fits
 name-in-fits (x ∷ u) zero f = no-flag-fits
 name-in-fits (x ∷ u) (suc zero) f = f.0
 name-in-fits (x ∷ u) (suc (suc i)) f = name-in-fits u (suc i) f.1
 
-named-fits : (x : Reading) (i : ℕ) → ReadingFits x → NamedFits (name_answer x i)
+named-fits : (x : Reading) (i : ℕ) → ReadingFits x → AnswerFits StretchFits (name_answer x i)
 unfolding name_answer
 named-fits (refusal k p) i f = refusal-fits k p f
 named-fits (guard g u) i f = name-in-fits u i f.places
 
-pub name-fits : (text : List ℕ) (i : ℕ) (r : Named) → r ≡ name_answer (reading text) i → NamedFits r
-name-fits text i r e = subst (λ (x : Named). NamedFits x) (sym e) (named-fits (reading text) i (reading-fits text))
+pub name-fits : (text : List ℕ) (i : ℕ) (r : Named) → r ≡ name_answer (reading text) i → AnswerFits StretchFits r
+name-fits text i r e = subst (λ (x : Named). AnswerFits StretchFits x) (sym e) (named-fits (reading text) i (reading-fits text))

@@ -3,12 +3,12 @@ use Prim.Native.Nat.{ℕ}
 use mathlib.Core.Path.{◌≡◌, sym, ap, ◌∙◌}
 use mathlib.Core.List.{List}
 use Rattle.guard_check.proofs.Unique as verdict
-use Rattle.importer.specs.Packed.{packed_verdict}
+use Rattle.importer.specs.Packed.{packed_answer, packed_verdict}
 use Rattle.importer.specs.Entries.{CheckAnswers, evaluate_number, ListAnswers, ReadAnswers, name_number}
 
 pub check-unique : (text : List ℕ) (depth r s : ℕ) → CheckAnswers text depth r → CheckAnswers text depth s → r ≡ s
 check-unique text depth r s a b =
-    a.number ∙ ap packed_verdict (verdict.check-unique text depth a.verdict b.verdict a.says b.says) ∙ sym b.number
+    a.number ∙ ap (packed_answer packed_verdict) (verdict.check-unique text depth a.verdict b.verdict a.says b.says) ∙ sym b.number
 
 pub evaluate-unique : (text : List ℕ) (state r s : ℕ) → r ≡ evaluate_number text state → s ≡ evaluate_number text state → r ≡ s
 evaluate-unique text state r s a b = a ∙ sym b

@@ -9,7 +9,7 @@ ghost use Rattle.importer.specs.Entries.{CheckAnswers, evaluate_number, ListAnsw
 use evaluate::evaluate;
 use guard_check::check::check;
 use list::list;
-use packing::{pack_evaluation, pack_listing, pack_named, pack_parsed, pack_verdict};
+use packing::Packed;
 use reading::name::name;
 use reading::read::read;
 
@@ -19,7 +19,7 @@ pub extern "C" fn trestulan_check(text: &[u8], depth: u64) -> u64
     ensures { CheckAnswers text.now depth result }
 {
     let verdict = check(text, depth);
-    pack_verdict(verdict)
+    verdict.packed()
 }
 
 // The value of a text's guard in a state.
@@ -28,7 +28,7 @@ pub extern "C" fn trestulan_evaluate(text: &[u8], state: u64) -> u64
     ensures { result ≡ evaluate_number text.now state }
 {
     let evaluation = evaluate(text, state);
-    pack_evaluation(evaluation)
+    evaluation.packed()
 }
 
 // Writes the gaps of a text from `start` on, ascending, as many as there is room for.
@@ -37,7 +37,7 @@ pub extern "C" fn trestulan_list(text: &[u8], start: u64, out: &mut [u32]) -> u6
     ensures { ListAnswers text.now start out.old result out.new }
 {
     let listing = list(text, start, out);
-    pack_listing(listing)
+    listing.packed()
 }
 
 // Writes kind, y and z of each triplet of a text's guard.
@@ -46,7 +46,7 @@ pub extern "C" fn trestulan_read(text: &[u8], room: &mut [u16]) -> u64
     ensures { ReadAnswers text.now room.old result room.new }
 {
     let parsed = read(text, room);
-    pack_parsed(parsed)
+    parsed.packed()
 }
 
 // Where flag i of a text's guard, counted from 1, first stands.
@@ -55,5 +55,5 @@ pub extern "C" fn trestulan_name(text: &[u8], i: u64) -> u64
     ensures { result ≡ name_number text.now i }
 {
     let named = name(text, i);
-    pack_named(named)
+    named.packed()
 }

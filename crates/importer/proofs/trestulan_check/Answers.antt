@@ -2,6 +2,6 @@
 use Rattle.importer.proofs.Fitting.{check-fits}
 use Rattle.importer.proofs.trestulan_check.Goals as goal
 
-pub pack_verdict-requires : goal.pack_verdict-requires
-pack_verdict-requires c =
+pub packed-requires : goal.packed-requires
+packed-requires c =
     check-fits c.args.text.now c.args.depth c.check-verdict.result c.check-verdict.ensures

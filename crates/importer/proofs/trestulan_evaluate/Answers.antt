@@ -2,6 +2,6 @@
 use Rattle.importer.proofs.Fitting.{evaluate-fits}
 use Rattle.importer.proofs.trestulan_evaluate.Goals as goal
 
-pub pack_evaluation-requires : goal.pack_evaluation-requires
-pack_evaluation-requires c =
+pub packed-requires : goal.packed-requires
+packed-requires c =
     evaluate-fits c.args.text.now c.args.state c.evaluate-evaluation.result c.evaluate-evaluation.ensures

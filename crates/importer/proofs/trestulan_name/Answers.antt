@@ -2,6 +2,6 @@
 use Rattle.importer.proofs.Fitting.{name-fits}
 use Rattle.importer.proofs.trestulan_name.Goals as goal
 
-pub pack_named-requires : goal.pack_named-requires
-pack_named-requires c =
+pub packed-requires : goal.packed-requires
+packed-requires c =
     name-fits c.args.text.now c.args.i c.name-named.result c.name-named.ensures

@@ -3,6 +3,6 @@ use lib.ListN.{length}
 use Rattle.importer.proofs.Fitting.{read_fits}
 use Rattle.importer.proofs.trestulan_read.Goals as goal
 
-pub pack_parsed-requires : goal.pack_parsed-requires
-pack_parsed-requires c =
+pub packed-requires : goal.packed-requires
+packed-requires c =
     read_fits c.args.text.now (length c.args.room.now) c.read-parsed.result c.read-parsed.ensures.answer
