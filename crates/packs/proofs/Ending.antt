@@ -1,4 +1,5 @@
 -- Where the reader of a pack begins and ends: the first state, the end of the pack, a field cut short, and the line that was read.
+use Rattle.std.specs.Prelude.{Ok, Err, Some, None}
 use Prim.Native.Nat.{ℕ, zero, suc, ◌+◌, ◌-◌, ◌≤◌, ◌<◌}
 use native.Mathlib.Omega.{arith}
 use mathlib.Core.Path.{◌≡◌, refl, sym, ap, ◌∙◌}
@@ -33,10 +34,8 @@ use Rattle.packs.specs.clauses.Says.{Going, Whole, end_step, StepSays, LineRead,
 use Rattle.packs.specs.declared.due.Due.{Due}
 use Rattle.packs.specs.declared.due.Due.TheVariants as due
 use Rattle.packs.specs.declared.steps.Progress.{Progress}
-use Rattle.packs.specs.declared.steps.Step.{Step}
-use Rattle.packs.specs.declared.steps.Step.TheVariants as step
-use Rattle.packs.specs.declared.read.Pack.{Pack}
-use Rattle.packs.specs.declared.read.Pack.TheVariants as answer
+use Rattle.packs.specs.clauses.Says.{Step}
+use Rattle.packs.specs.clauses.Says.{Pack}
 use Rattle.packs.proofs.Further.{goes-short, goes_end}
 use Rattle.packs.proofs.Taking.{further_to}
 
@@ -88,7 +87,7 @@ module _ (file codes pool spans : List ℕ) (p : Progress) (w : Whole file codes
   fit : all_fit (questions_of w.line.rule w.line.variants) ≡ leb (p.total + p.variants) connective_ceiling
   fit = questions-fit w.line.rule w.line.variants last.1 ∙ rw (w.taken.total, w.taken.variants)
 
-  pub over-says : connective_ceiling < p.total + p.variants → (r : Pack) → r ≡ answer.Refused (fault 8 p.at)
+  pub over-says : connective_ceiling < p.total + p.variants → (r : Pack) → r ≡ Err (fault 8 p.at)
       → PackSays file (pack_read file) r codes pool spans
   unfolding pack_read fitting
   over-says h r q = rw (w.means, fit, lt-leb (p.total + p.variants) connective_ceiling h, sym w.ends) q
@@ -99,7 +98,7 @@ module _ (file codes pool spans : List ℕ) (p : Progress) (w : Whole file codes
   all : take p.at file ≡ file
   all = take_all p.at file (omega (arith, w.ends))
 
-  line_read : p.total + p.variants ≤ connective_ceiling → (r : Pack) → r ≡ answer.Line (record { flags = p.flags; variants = p.variants })
+  line_read : p.total + p.variants ≤ connective_ceiling → (r : Pack) → r ≡ Ok (record { flags = p.flags; variants = p.variants })
       → LineRead file w.line r codes pool spans
   line_read h r q =
       let t : Taken file codes pool spans p w.line = w.taken in
@@ -121,7 +120,7 @@ module _ (file codes pool spans : List ℕ) (p : Progress) (w : Whole file codes
         texts = t.texts;
       }
 
-  pub line-says : p.total + p.variants ≤ connective_ceiling → (r : Pack) → r ≡ answer.Line (record { flags = p.flags; variants = p.variants })
+  pub line-says : p.total + p.variants ≤ connective_ceiling → (r : Pack) → r ≡ Ok (record { flags = p.flags; variants = p.variants })
       → PackSays file (pack_read file) r codes pool spans
   unfolding pack_read fitting
   line-says h r q = rw (w.means, fit, le-leb (p.total + p.variants) connective_ceiling h) (line_read h r q)
@@ -154,21 +153,21 @@ starts file codes pool spans spans' o w = record {
     first (suc k) b = absurd (omega arith)
 
 pub refused_says : (file codes pool spans : List ℕ) (f : Refusal) → fields_say file ≡ refusal f
-    → PackSays file (pack_read file) (answer.Refused f) codes pool spans
+    → PackSays file (pack_read file) (Err f) codes pool spans
 unfolding pack_read fitting
 refused_says file codes pool spans f h = rw h refl
 
 -- ---- a step's answer taken apart
 module _ (file : List ℕ) (p : Progress) (r : Step) (codes pool spans : List ℕ) (h : StepSays file p r codes pool spans) where
-  pub on_of : (q : Progress) → r ≡ step.On q → Going file codes pool spans q × (p.at < q.at)
+  pub on_of : (q : Progress) → r ≡ (Ok (Some q)) → Going file codes pool spans q × (p.at < q.at)
   on_of q x = rw x at h
 
-  pub ended_of : r ≡ step.Ended → Whole file codes pool spans p
+  pub ended_of : r ≡ (Ok None) → Whole file codes pool spans p
   ended_of x = rw x at h
 
-  pub refused-of : (f : Refusal) → r ≡ step.Refused f → fields_say file ≡ refusal f
+  pub refused-of : (f : Refusal) → r ≡ Err f → fields_say file ≡ refusal f
   refused-of f x = rw x at h
 
   -- the step moved on
-  pub less-of : (q : Progress) → r ≡ step.On q → length file - q.at < length file - p.at
+  pub less-of : (q : Progress) → r ≡ (Ok (Some q)) → length file - q.at < length file - p.at
   less-of q x = let y : Going file codes pool spans q × (p.at < q.at) = on_of q x in omega (arith, y.1, y.0.taken.inside)

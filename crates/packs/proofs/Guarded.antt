@@ -1,4 +1,5 @@
 -- A guard of the pack: what reading it asks of the reader, and what its answer says.
+use Rattle.std.specs.Prelude.{Ok, Err}
 use Prim.Native.Nat.{ℕ, ◌-◌, ◌*◌, ◌≤◌}
 use native.Mathlib.Omega.{arith}
 use native.Mathlib.Nat.{sub-zero}
@@ -18,8 +19,7 @@ use Rattle.reading.specs.Service.{guard_with}
 use Rattle.notation.specs.Refusals.{fault}
 use Rattle.reading.specs.clauses.Parsing.{ParseSays}
 use Rattle.reading.specs.declared.parse.Guard as numbers
-use Rattle.reading.specs.declared.parse.Parsed.{Parsed}
-use Rattle.reading.specs.declared.parse.Parsed.TheVariants as parsed
+use Rattle.reading.specs.Service.{Parsed}
 use Rattle.packs.specs.clauses.Taken.{KeepSays, Noted}
 use Rattle.packs.specs.clauses.Says.{GuardAsks, GuardTaken, GuardTakenSays}
 use Rattle.packs.proofs.Longer.{fewer}
@@ -29,7 +29,7 @@ module _ (file : List ℕ) (e row total : ℕ) (r : Parsed) (pool spans codes' p
   abbrev pub Answers : Reading → Type 0
   Answers R = GuardTakenSays R file e row total r pool spans codes' pool' spans'
 
-  pub says-refused : (R : Reading) → Answers R → (f : Refusal) → r ≡ parsed.Refused f → R ≡ read.refusal f.number f.place
+  pub says-refused : (R : Reading) → Answers R → (f : Refusal) → r ≡ Err f → R ≡ read.refusal f.number f.place
   says-refused (read.refusal k d) h f q = let same : fault k d ≡ f = cc in ap (λ (y : Refusal). read.refusal y.number y.place) same
   says-refused (read.guard g u) h f q = let a = h.found.answer in let z : ◌≡◌ {A = ℕ} 0 1 = cc in absurd (omega arith)
 
@@ -42,7 +42,7 @@ module _ (file : List ℕ) (e row total : ℕ) (r : Parsed) (pool spans codes' p
     pub flags : q.flags ≡ length seen
     pub count : q.count ≡ connectives tree
 
-  pub says-guard : (R : Reading) → Answers R → (q : numbers.Guard) → r ≡ parsed.Guard q → Read R q
+  pub says-guard : (R : Reading) → Answers R → (q : numbers.Guard) → r ≡ Ok q → Read R q
   says-guard (read.refusal k d) h q x = let z : ◌≡◌ {A = ℕ} 0 1 = cc in absurd (omega arith)
   says-guard (read.guard g u) h q x =
       let a : r ≡ guard_with (length u) (connectives g) (literal 0 g) = h.found.answer in
@@ -56,7 +56,7 @@ module _ (file : List ℕ) (e row total : ℕ) (r : Parsed) (pool spans codes' p
         count = ap (λ (y : numbers.Guard). y.count) same;
       }
 
-  pub count_small : (R : Reading) → Answers R → (q : numbers.Guard) → r ≡ parsed.Guard q → q.count ≤ connective_ceiling
+  pub count_small : (R : Reading) → Answers R → (q : numbers.Guard) → r ≡ Ok q → q.count ≤ connective_ceiling
   count_small R h q x = let y = says-guard R h q x in omega (arith, y.count, y.taken.found.short)
 
 -- ---- what reading it does
@@ -71,7 +71,7 @@ parse-asks file s e flags total row codes pool spans a from b n h =
     ((a.rooms.codes, refl), ((omega (arith, long, a.starts), omega (arith, a.few)), fewer (take e file) codes n flags h a.in_text))
 
 module _ (file : List ℕ) (e row total s n : ℕ) (codes codes' out : List ℕ) (r : Parsed) where
-  pub parsed-small : (R : Reading) (text : List ℕ) → ParseSays text R r codes' out → (q : numbers.Guard) → r ≡ parsed.Guard q
+  pub parsed-small : (R : Reading) (text : List ℕ) → ParseSays text R r codes' out → (q : numbers.Guard) → r ≡ Ok q
       → (q.count ≤ connective_ceiling) × (length out ≡ 3 * connective_ceiling)
   parsed-small (read.refusal k d) text h q x = let z : ◌≡◌ {A = ℕ} 0 1 = cc in absurd (omega arith)
   parsed-small (read.guard g u) text h q x =
@@ -81,14 +81,14 @@ module _ (file : List ℕ) (e row total s n : ℕ) (codes codes' out : List ℕ)
       (omega (arith, h.short), h.room)
 
   module _ (pool spans pool' spans' : List ℕ) where
-    refused-taken : (R : Reading) → ParseSays (take e file) R r codes' out → (f : Refusal) → r ≡ parsed.Refused f
+    refused-taken : (R : Reading) → ParseSays (take e file) R r codes' out → (f : Refusal) → r ≡ Err f
         → GuardTakenSays R file e row total r pool spans codes' pool' spans'
     refused-taken (read.refusal k d) h f x = h
     refused-taken (read.guard g u) h f x =
         let a : r ≡ guard_with (length u) (connectives g) (literal 0 g) = h.answer in
         let z : ◌≡◌ {A = ℕ} 0 1 = cc in absurd (omega arith)
 
-    guard-taken : (R : Reading) → ParseSays (take e file) R r codes' out → (q : numbers.Guard) → r ≡ parsed.Guard q
+    guard-taken : (R : Reading) → ParseSays (take e file) R r codes' out → (q : numbers.Guard) → r ≡ Ok q
         → KeepSays out q.count total pool pool' → Noted row total q.count q.root spans spans'
         → GuardTakenSays R file e row total r pool spans codes' pool' spans'
     guard-taken (read.refusal k d) h q x w v = h
@@ -105,13 +105,13 @@ module _ (file : List ℕ) (e row total s n : ℕ) (codes codes' out : List ℕ)
     abbrev Takes : Parsed → Type 0
     Takes y = GuardTakenSays (reading_from (take e file) s (flags_in (take e file) codes n)) file e row total y pool spans codes' pool' spans'
 
-    pub parsed-refused : Parses (e - 0) → (f : Refusal) → r ≡ parsed.Refused f → Takes r
+    pub parsed-refused : Parses (e - 0) → (f : Refusal) → r ≡ Err f → Takes r
     parsed-refused h f x =
         refused-taken (reading_from (take e file) s (flags_in (take e file) codes n)) (subst (λ (b : ℕ). Parses b) (sub-zero e) h) f x
 
-    pub parsed-guard : Parses (e - 0) → (q : numbers.Guard) → r ≡ parsed.Guard q
+    pub parsed-guard : Parses (e - 0) → (q : numbers.Guard) → r ≡ Ok q
         → KeepSays out q.count total pool pool' → Noted row total q.count q.root spans spans'
-        → Takes (parsed.Guard q)
+        → Takes (Ok q)
     parsed-guard h q x w v =
         subst (λ (y : Parsed). Takes y) x
         (guard-taken (reading_from (take e file) s (flags_in (take e file) codes n)) (subst (λ (b : ℕ). Parses b) (sub-zero e) h) q x w v)

@@ -1,4 +1,5 @@
 -- What each step over a field answers.
+use Rattle.std.specs.Prelude.{Some, Ok, Err}
 use Prim.Native.Nat.{ℕ, ◌+◌, ◌-◌, ◌*◌, ◌≤◌, ◌<◌}
 use native.Mathlib.Omega.{arith}
 use mathlib.Core.Path.{◌≡◌, sym, ap, ◌∙◌}
@@ -13,8 +14,7 @@ use Rattle.notation.specs.Reading.{reading_from}
 use Rattle.notation.specs.Refusals.{fault}
 use Rattle.notation.specs.declared.refusal.Refusal.{Refusal}
 use Rattle.reading.specs.declared.parse.Guard as numbers
-use Rattle.reading.specs.declared.parse.Parsed.{Parsed}
-use Rattle.reading.specs.declared.parse.Parsed.TheVariants as parsed
+use Rattle.reading.specs.Service.{Parsed}
 use Rattle.questions.specs.Questions.{variant_ceiling}
 use Rattle.packs.specs.Pack.{refusal, refused, guard_in, ruled, varied, texted, step_as, fields_say, id_ceiling}
 use Rattle.packs.specs.clauses.Taken.{guard_ceiling, NotedText}
@@ -24,7 +24,6 @@ use Rattle.packs.specs.declared.due.Due.TheVariants as due
 use Rattle.packs.specs.declared.due.Role.{Role}
 use Rattle.packs.specs.declared.due.Role.TheVariants as is
 use Rattle.packs.specs.declared.steps.Progress.{Progress}
-use Rattle.packs.specs.declared.steps.Step.TheVariants as step
 use Rattle.packs.proofs.Longer.{longer-in, longer-flags}
 use Rattle.packs.proofs.Stages.{wrong-step, empty-step, long-step, full-step, rule-refused, variant-refused}
 use Rattle.packs.proofs.Taking.{further_to, taken_refused, taken-id, taken-text, taken-rule, taken-variant}
@@ -62,8 +61,8 @@ module _ (file codes pool spans : List ℕ) (p : Progress) (ro : Role) (s e : �
 
 -- the numbers of the guard that was read are the tree's
 on-as : (file : List ℕ) (p : Progress) (e : ℕ) (d : Due) (v n n' c c' : ℕ) (codes pool spans : List ℕ) → n ≡ n' → c ≡ c'
-    → StepSays file p (step.On (further_to e d n' v (p.total + c'))) codes pool spans
-    → StepSays file p (step.On (further_to e d n v (p.total + c))) codes pool spans
+    → StepSays file p (Ok (Some (further_to e d n' v (p.total + c')))) codes pool spans
+    → StepSays file p (Ok (Some (further_to e d n v (p.total + c)))) codes pool spans
 on-as file p e d v n n' c c' codes pool spans x y h = rw (x, y) h
 
 module _ (file codes pool spans : List ℕ) (p : Progress) (s e : ℕ) where
@@ -78,7 +77,7 @@ module _ (file codes pool spans : List ℕ) (p : Progress) (s e : ℕ) where
     long-says h = refuses file codes pool spans p is.Id s e a (fault 15 p.at) (long-step file a.going.line p.at s e h)
 
     pub id-says : (e - s ≡ 0 → ⊥) → e - s ≤ id_ceiling
-        → StepSays file p (step.On (further_to e due.RuleOrVariant p.flags p.variants p.total)) codes pool spans
+        → StepSays file p (Ok (Some (further_to e due.RuleOrVariant p.flags p.variants p.total))) codes pool spans
     id-says n h = (
       record {
         line = a.going.line;
@@ -92,7 +91,7 @@ module _ (file codes pool spans : List ℕ) (p : Progress) (s e : ℕ) where
         some m = ⊎_elim (λ (z : 0 < e - s). z) (λ (z : e - s ≤ 0). absurd (m (omega arith))) (lt-or-ge 0 (e - s))
 
   module _ (a : StepAsks file codes pool spans p is.Text s e) (spans' : List ℕ) (w : NotedText p.variants s e spans spans') where
-    pub text_says : StepSays file p (step.On (further_to e due.VariantOrEnd p.flags p.variants p.total)) codes pool spans'
+    pub text_says : StepSays file p (Ok (Some (further_to e due.VariantOrEnd p.flags p.variants p.total))) codes pool spans'
     text_says = (
       record {
         line = texted a.going.line s e;
@@ -109,15 +108,15 @@ module _ (file codes pool spans : List ℕ) (p : Progress) (s e : ℕ) where
         GuardTakenSays (reading_from (take e file) s (flags_in (take e file) codes p.flags)) file e row p.total r pool spans codes' pool' spans'
 
     module _ (a : StepAsks file codes pool spans p is.Rule s e) (h : Read 0) where
-      pub rule-says-refused : (f : Refusal) → r ≡ parsed.Refused f → fields_say file ≡ refusal f
+      pub rule-says-refused : (f : Refusal) → r ≡ Err f → fields_say file ≡ refusal f
       rule-says-refused f q =
           refuses file codes pool spans p is.Rule s e a f
           (rule-refused file a.going.line p.at s e f
           (sym (same-reading file codes pool spans p is.Rule s e a)
           ∙ says-refused file e 0 p.total r pool spans codes' pool' spans' _ h f q))
 
-      pub rule-says-on : (q : numbers.Guard) → r ≡ parsed.Guard q
-          → StepSays file p (step.On (further_to e due.Variant q.flags p.variants (p.total + q.count))) codes' pool' spans'
+      pub rule-says-on : (q : numbers.Guard) → r ≡ Ok q
+          → StepSays file p (Ok (Some (further_to e due.Variant q.flags p.variants (p.total + q.count)))) codes' pool' spans'
       rule-says-on q x =
           let y = says-guard file e 0 p.total r pool spans codes' pool' spans'
           (reading_from (take e file) s (flags_in (take e file) codes p.flags)) h q x in
@@ -134,15 +133,15 @@ module _ (file codes pool spans : List ℕ) (p : Progress) (s e : ℕ) where
           )
 
     module _ (a : StepAsks file codes pool spans p is.Variant s e) (room : p.variants < variant_ceiling) (h : Read (p.variants + 1)) where
-      pub variant-says-refused : (f : Refusal) → r ≡ parsed.Refused f → fields_say file ≡ refusal f
+      pub variant-says-refused : (f : Refusal) → r ≡ Err f → fields_say file ≡ refusal f
       variant-says-refused f q =
           refuses file codes pool spans p is.Variant s e a f
           (variant-refused file a.going.line p.at s e f (omega (arith, a.going.taken.variants))
           (sym (same-reading file codes pool spans p is.Variant s e a)
           ∙ says-refused file e (p.variants + 1) p.total r pool spans codes' pool' spans' _ h f q))
 
-      pub variant-says-on : (q : numbers.Guard) → r ≡ parsed.Guard q
-          → StepSays file p (step.On (further_to e due.Text q.flags (p.variants + 1) (p.total + q.count))) codes' pool' spans'
+      pub variant-says-on : (q : numbers.Guard) → r ≡ Ok q
+          → StepSays file p (Ok (Some (further_to e due.Text q.flags (p.variants + 1) (p.total + q.count)))) codes' pool' spans'
       variant-says-on q x =
           let y = says-guard file e (p.variants + 1) p.total r pool spans codes' pool' spans'
           (reading_from (take e file) s (flags_in (take e file) codes p.flags)) h q x in

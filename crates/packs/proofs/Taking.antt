@@ -1,4 +1,5 @@
 -- The reader of a pack, one field further: what it holds stays true of the line with that field.
+use Rattle.std.specs.Prelude.{}
 use Prim.Native.Nat.{ℕ, zero, suc, ◌+◌, ◌-◌, ◌*◌, ◌≤◌, ◌<◌}
 use native.Mathlib.Nat.{not-suc-le-zero, eq-or-lt_of_le}
 use native.Mathlib.Omega.{arith}
@@ -16,7 +17,7 @@ use Rattle.notation.specs.declared.refusal.Refusal.{Refusal}
 use Rattle.notation.proofs.Accepted.{Accepted, reading-from-accepted}
 use Rattle.notation.proofs.Coding.{flags-length}
 use Rattle.reading.specs.clauses.Parsing.{GuardRead}
-use Rattle.reading.specs.declared.parse.Parsed.{Parsed}
+use Rattle.reading.specs.Service.{Parsed}
 use Rattle.fields.specs.Fields.{header, pieces_at}
 use Rattle.fields.specs.clauses.Here.{FieldHere}
 use Rattle.building.specs.clauses.Held.{Held, HeldAt, off_at, count_at, root_at, text_at}

@@ -6,7 +6,7 @@ ghost use Rattle.packs.specs.clauses.Says.{Whole, PackSays};
 
 use crate::due::Due;
 use crate::pool::note;
-use crate::steps::{Progress, Step, step_on};
+use crate::steps::{Progress, step_on};
 use notation::ceilings::{CODES_ROOM, CONNECTIVES, TRIPLETS_ROOM};
 use notation::refusal::{Refusal, fault};
 use questions::SPANS_ROOM;
@@ -18,12 +18,6 @@ pub struct Line {
     pub variants: usize,
 }
 
-#[derive(Clone, Copy)]
-pub enum Pack {
-    Line(Line),
-    Refused(Refusal),
-}
-
 // The line that has been read, where its questions keep the ceiling: the largest has the connectives of all guards, and one for each variant.
 fn closed(
     file: &[u8],
@@ -31,14 +25,14 @@ fn closed(
     codes: &[usize; CODES_ROOM],
     pool: &[u16; TRIPLETS_ROOM],
     spans: &[usize; SPANS_ROOM],
-) -> Pack
+) -> Result<Line, Refusal>
     requires { Whole file.now codes.now pool.now spans.now p }
     ensures { PackSays file.now (pack_read file.now) result codes.now pool.now spans.now }
 {
     if CONNECTIVES < p.total + p.variants {
-        return Pack::Refused(fault(8, p.at));
+        return Err(fault(8, p.at));
     }
-    Pack::Line(Line {
+    Ok(Line {
         flags: p.flags,
         variants: p.variants,
     })
@@ -50,7 +44,7 @@ pub fn read_pack(
     codes: &mut [usize; CODES_ROOM],
     pool: &mut [u16; TRIPLETS_ROOM],
     spans: &mut [usize; SPANS_ROOM],
-) -> Pack
+) -> Result<Line, Refusal>
     requires { Rooms codes.old pool.old spans.old }
     ensures { PackSays file.now (pack_read file.now) result codes.new pool.new spans.new }
 {
@@ -62,14 +56,8 @@ pub fn read_pack(
         variants: 0,
         total: 0,
     };
-    loop {
-        let step = step_on(file, p, codes, pool, spans);
-        match step {
-            Step::On(next) => {
-                p = next;
-            }
-            Step::Ended => return closed(file, p, codes, pool, spans),
-            Step::Refused(refusal) => return Pack::Refused(refusal),
-        }
+    while let Some(next) = step_on(file, p, codes, pool, spans)? {
+        p = next;
     }
+    closed(file, p, codes, pool, spans)
 }

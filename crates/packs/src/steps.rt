@@ -12,7 +12,7 @@ use fields::{Field, field_at};
 use notation::ceilings::{CODES_ROOM, TRIPLETS_ROOM};
 use notation::refusal::{Refusal, fault};
 use questions::{SPANS_ROOM, VARIANTS};
-use reading::parse::{Parsed, parse_from};
+use reading::parse::{Guard, parse_from};
 
 // Bytes of a line's id.
 const ID: usize = 16;
@@ -27,20 +27,6 @@ pub struct Progress {
     pub total: usize,
 }
 
-// One field further, the end of a line, or a refusal.
-#[derive(Clone, Copy)]
-pub enum Step {
-    On(Progress),
-    Ended,
-    Refused(Refusal),
-}
-
-fn refused(number: usize, place: usize) -> Step
-    ensures { result ≡ Step.Refused (fault number place) }
-{
-    Step::Refused(fault(number, place))
-}
-
 // A guard of the pack, from start to end, as guard `row` of the line: its triplets go behind the others in the pool, where they fit. Its
 // text is all of the pack up to its end, so that every place is one of the pack.
 fn read_guard(
@@ -53,7 +39,7 @@ fn read_guard(
     codes: &mut [usize; CODES_ROOM],
     pool: &mut [u16; TRIPLETS_ROOM],
     spans: &mut [usize; SPANS_ROOM],
-) -> Parsed
+) -> Result<Guard, Refusal>
     requires { GuardAsks file.now start end flags total row codes.old pool.old spans.old }
     ensures { GuardTakenSays
         (reading_from (take end file.now) start (flags_in (take end file.now) codes.old flags))
@@ -61,13 +47,10 @@ fn read_guard(
         codes.new pool.new spans.new }
 {
     let mut out = [0u16; TRIPLETS_ROOM];
-    let parsed = parse_from(&file[0..end], start, flags, codes, &mut out);
-    let Parsed::Guard(guard) = parsed else {
-        return parsed;
-    };
+    let guard = parse_from(&file[0..end], start, flags, codes, &mut out)?;
     keep(&out, guard.count, pool, total);
     note(spans, row, total, guard.count, guard.root);
-    Parsed::Guard(guard)
+    Ok(guard)
 }
 
 // An id: only its length matters.
@@ -79,24 +62,22 @@ fn id_step(
     codes: &[usize; CODES_ROOM],
     pool: &[u16; TRIPLETS_ROOM],
     spans: &[usize; SPANS_ROOM],
-) -> Step
+) -> Result<Option<Progress>, Refusal>
     requires { StepAsks file.now codes.now pool.now spans.now p Role.Id start end }
     ensures { StepSays file.now p result codes.now pool.now spans.now }
 {
     let len = end - start;
     if len == 0 {
-        return refused(15, p.at);
+        return Err(fault(15, p.at));
     }
     if ID < len {
-        return refused(15, p.at);
+        return Err(fault(15, p.at));
     }
-    Step::On(Progress {
+    Ok(Some(Progress {
         at: end,
         due: Due::RuleOrVariant,
-        flags: p.flags,
-        variants: p.variants,
-        total: p.total,
-    })
+        ..p
+    }))
 }
 
 // A rule: guard 0 of the line.
@@ -108,21 +89,18 @@ fn rule_step(
     codes: &mut [usize; CODES_ROOM],
     pool: &mut [u16; TRIPLETS_ROOM],
     spans: &mut [usize; SPANS_ROOM],
-) -> Step
+) -> Result<Option<Progress>, Refusal>
     requires { StepAsks file.now codes.old pool.old spans.old p Role.Rule start end }
     ensures { StepSays file.now p result codes.new pool.new spans.new }
 {
-    let parsed = read_guard(file, start, end, p.flags, p.total, 0, codes, pool, spans);
-    match parsed {
-        Parsed::Refused(refusal) => Step::Refused(refusal),
-        Parsed::Guard(guard) => Step::On(Progress {
-            at: end,
-            due: Due::Variant,
-            flags: guard.flags,
-            variants: p.variants,
-            total: p.total + guard.count,
-        }),
-    }
+    let guard = read_guard(file, start, end, p.flags, p.total, 0, codes, pool, spans)?;
+    Ok(Some(Progress {
+        at: end,
+        due: Due::Variant,
+        flags: guard.flags,
+        variants: p.variants,
+        total: p.total + guard.count,
+    }))
 }
 
 // A variant: the next guard of the line.
@@ -134,25 +112,22 @@ fn variant_step(
     codes: &mut [usize; CODES_ROOM],
     pool: &mut [u16; TRIPLETS_ROOM],
     spans: &mut [usize; SPANS_ROOM],
-) -> Step
+) -> Result<Option<Progress>, Refusal>
     requires { StepAsks file.now codes.old pool.old spans.old p Role.Variant start end }
     ensures { StepSays file.now p result codes.new pool.new spans.new }
 {
     if VARIANTS <= p.variants {
-        return refused(14, p.at);
+        return Err(fault(14, p.at));
     }
     let row = p.variants + 1;
-    let parsed = read_guard(file, start, end, p.flags, p.total, row, codes, pool, spans);
-    match parsed {
-        Parsed::Refused(refusal) => Step::Refused(refusal),
-        Parsed::Guard(guard) => Step::On(Progress {
-            at: end,
-            due: Due::Text,
-            flags: guard.flags,
-            variants: row,
-            total: p.total + guard.count,
-        }),
-    }
+    let guard = read_guard(file, start, end, p.flags, p.total, row, codes, pool, spans)?;
+    Ok(Some(Progress {
+        at: end,
+        due: Due::Text,
+        flags: guard.flags,
+        variants: row,
+        total: p.total + guard.count,
+    }))
 }
 
 // The text of the last variant.
@@ -164,32 +139,28 @@ fn text_step(
     codes: &[usize; CODES_ROOM],
     pool: &[u16; TRIPLETS_ROOM],
     spans: &mut [usize; SPANS_ROOM],
-) -> Step
+) -> Result<Option<Progress>, Refusal>
     requires { StepAsks file.now codes.now pool.now spans.old p Role.Text start end }
     ensures { StepSays file.now p result codes.now pool.now spans.new }
 {
     note_text(spans, p.variants, start, end);
-    Step::On(Progress {
+    Ok(Some(Progress {
         at: end,
         due: Due::VariantOrEnd,
-        flags: p.flags,
-        variants: p.variants,
-        total: p.total,
-    })
+        ..p
+    }))
 }
 
 // The pack ends: a line where all its fields are there.
-fn ended(p: Progress) -> Step
+fn ended(p: Progress) -> Result<Option<Progress>, Refusal>
     ensures { result ≡ end_step p.due p.at }
 {
-    let due = p.due;
-    let at = p.at;
-    match due {
-        Due::Id => refused(13, at),
-        Due::RuleOrVariant => refused(14, at),
-        Due::Variant => refused(14, at),
-        Due::Text => refused(13, at),
-        Due::VariantOrEnd => Step::Ended,
+    match p.due {
+        Due::Id => Err(fault(13, p.at)),
+        Due::RuleOrVariant => Err(fault(14, p.at)),
+        Due::Variant => Err(fault(14, p.at)),
+        Due::Text => Err(fault(13, p.at)),
+        Due::VariantOrEnd => Ok(None),
     }
 }
 
@@ -203,15 +174,13 @@ fn field_step(
     codes: &mut [usize; CODES_ROOM],
     pool: &mut [u16; TRIPLETS_ROOM],
     spans: &mut [usize; SPANS_ROOM],
-) -> Step
+) -> Result<Option<Progress>, Refusal>
     requires going { Going file.now codes.old pool.old spans.old p }
     requires field_here { FieldHere file.now p.at tag start end }
     ensures { StepSays file.now p result codes.new pool.new spans.new }
 {
-    let due = p.due;
-    let role = role_of(due, tag);
-    match role {
-        Role::Wrong => refused(13, p.at),
+    match role_of(p.due, tag) {
+        Role::Wrong => Err(fault(13, p.at)),
         Role::Id => id_step(file, p, start, end, codes, pool, spans),
         Role::Rule => rule_step(file, p, start, end, codes, pool, spans),
         Role::Variant => variant_step(file, p, start, end, codes, pool, spans),
@@ -219,24 +188,22 @@ fn field_step(
     }
 }
 
-// One field further.
+// One field further, or none at the end of the line.
 pub fn step_on(
     file: &[u8],
     p: Progress,
     codes: &mut [usize; CODES_ROOM],
     pool: &mut [u16; TRIPLETS_ROOM],
     spans: &mut [usize; SPANS_ROOM],
-) -> Step
+) -> Result<Option<Progress>, Refusal>
     requires { Going file.now codes.old pool.old spans.old p }
     ensures { StepSays file.now p result codes.new pool.new spans.new }
 {
-    let at = p.at;
-    let field = field_at(file, at);
-    match field {
+    match field_at(file, p.at) {
         Field::Whole { tag, start, end } => field_step(
             file, p, tag, start, end, codes, pool, spans,
         ),
-        Field::Cut => refused(13, at),
+        Field::Cut => Err(fault(13, p.at)),
         Field::End => ended(p),
     }
 }

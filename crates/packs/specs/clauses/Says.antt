@@ -1,5 +1,5 @@
 -- What the steps of the reader of a pack ask and answer, and what reading a pack does.
-use Rattle.std.specs.Prelude.{ℕ, suc, ◌*◌, ◌≤◌, ◌<◌, ◌≡◌, List, length, get_or, take}
+use Rattle.std.specs.Prelude.{ℕ, suc, ◌*◌, ◌≤◌, ◌<◌, ◌≡◌, List, length, get_or, take, Option, Some, None, Result, Ok, Err}
 use Rattle.notation.specs.Ceilings.{flag_ceiling, connective_ceiling}
 use Rattle.notation.specs.Refusals.{fault}
 use Rattle.notation.specs.Walk.{Flag}
@@ -9,8 +9,8 @@ use Rattle.notation.specs.clauses.Codes.{flags_in, InText}
 use Rattle.notation.specs.Reading as read
 use Rattle.notation.specs.Reading.{Reading}
 use Rattle.reading.specs.clauses.Parsing.{GuardRead}
-use Rattle.reading.specs.declared.parse.Parsed.{Parsed}
-use Rattle.reading.specs.declared.parse.Parsed.TheVariants as parsed
+use Rattle.notation.specs.declared.refusal.Refusal.{Refusal}
+use Rattle.reading.specs.Service.{Parsed}
 use Rattle.fields.specs.clauses.Here.{FieldHere}
 use Rattle.building.specs.clauses.Held.{text_at}
 use Rattle.questions.specs.Questions.{variant_ceiling}
@@ -22,10 +22,15 @@ use Rattle.packs.specs.declared.due.Due.{Due}
 use Rattle.packs.specs.declared.due.Due.TheVariants as due
 use Rattle.packs.specs.declared.due.Role.{Role}
 use Rattle.packs.specs.declared.steps.Progress.{Progress}
-use Rattle.packs.specs.declared.steps.Step.{Step}
-use Rattle.packs.specs.declared.steps.Step.TheVariants as step
-use Rattle.packs.specs.declared.read.Pack.{Pack}
-use Rattle.packs.specs.declared.read.Pack.TheVariants as answer
+use Rattle.packs.specs.declared.read.Line as counted
+
+-- one field further, the end of a line, or a refusal
+abbrev pub Step : Type 0
+Step = Result (Option Progress) Refusal
+
+-- how many flags and variants a line has, or the refusal of its pack
+abbrev pub Pack : Type 0
+Pack = Result counted.Line Refusal
 
 -- some line has been read up to here
 pub record Going (file codes pool spans : List ℕ) (p : Progress) : Type 0 where
@@ -63,17 +68,17 @@ pub record GuardAsks (file : List ℕ) (s e flags total row : ℕ) (codes pool s
 
 -- the step at the end of the pack
 abbrev pub end_step : Due → ℕ → Step
-end_step due.Id at = step.Refused (fault 13 at)
-end_step due.RuleOrVariant at = step.Refused (fault 14 at)
-end_step due.Variant at = step.Refused (fault 14 at)
-end_step due.Text at = step.Refused (fault 13 at)
-end_step due.VariantOrEnd at = step.Ended
+end_step due.Id at = Err (fault 13 at)
+end_step due.RuleOrVariant at = Err (fault 14 at)
+end_step due.Variant at = Err (fault 14 at)
+end_step due.Text at = Err (fault 13 at)
+end_step due.VariantOrEnd at = Ok None
 
 -- what a step from p answers, and what the lent tables then hold
 abbrev pub StepSays : List ℕ → Progress → Step → List ℕ → List ℕ → List ℕ → Type 0
-StepSays file p (step.On q) codes pool spans = Going file codes pool spans q × (p.at < q.at)
-StepSays file p step.Ended codes pool spans = Whole file codes pool spans p
-StepSays file p (step.Refused f) codes pool spans = fields_say file ≡ pack.refusal f
+StepSays file p (Ok (Some q)) codes pool spans = Going file codes pool spans q × (p.at < q.at)
+StepSays file p (Ok None) codes pool spans = Whole file codes pool spans p
+StepSays file p (Err f) codes pool spans = fields_say file ≡ pack.refusal f
 
 -- a guard of the pack has been read: its flags, its triplets in the pool where they fit, and where they stand
 pub record GuardTaken (file : List ℕ) (e row total : ℕ) (g : Guard) (u : List Flag) (r : Parsed) (pool spans codes' pool' spans' : List ℕ) : Type
@@ -86,13 +91,13 @@ pub record GuardTaken (file : List ℕ) (e row total : ℕ) (g : Guard) (u : Lis
 -- what reading a guard of the pack answers, and what the lent tables then hold
 abbrev pub GuardTakenSays : Reading → List ℕ → ℕ → ℕ → ℕ → Parsed → List ℕ → List ℕ → List ℕ → List ℕ → List ℕ
     → Type 0
-GuardTakenSays (read.refusal k p) file e row total r pool spans codes' pool' spans' = r ≡ parsed.Refused (fault k p)
+GuardTakenSays (read.refusal k p) file e row total r pool spans codes' pool' spans' = r ≡ Err (fault k p)
 GuardTakenSays (read.guard g u) file e row total r pool spans codes' pool' spans' = GuardTaken file e row total g u r pool spans codes' pool'
     spans'
 
 -- the line of a pack in the lent tables: its flags, its guards in the pool, and where its texts stand
 pub record LineRead (file : List ℕ) (l : pack.Line) (r : Pack) (codes pool spans : List ℕ) : Type 0 where
-  pub answer : r ≡ answer.Line (record { flags = length l.flags; variants = length l.variants })
+  pub answer : r ≡ Ok (record { flags = length l.flags; variants = length l.variants })
   pub rooms : Rooms codes pool spans
   pub flags : flags_in file codes (length l.flags) ≡ l.flags
   pub in_text : InText file codes (length l.flags)
@@ -102,5 +107,5 @@ pub record LineRead (file : List ℕ) (l : pack.Line) (r : Pack) (codes pool spa
 
 -- what reading a pack answers, and what the lent tables then hold
 abbrev pub PackSays : List ℕ → PackReading → Pack → List ℕ → List ℕ → List ℕ → Type 0
-PackSays file (pack.refusal f) r codes pool spans = r ≡ answer.Refused f
+PackSays file (pack.refusal f) r codes pool spans = r ≡ Err f
 PackSays file (pack.line l) r codes pool spans = LineRead file l r codes pool spans

@@ -6,16 +6,16 @@ pub field_step-requires : goal.field_step-requires
 field_step-requires c =
     record {
       going = c.requires;
-      field_here = whole_here c.args.file.now c.args.codes.now c.args.pool.now c.args.spans.now c.args.p c.requires c.field_at-field.result
-          c.field_at-field.ensures _ _ _ c.in-Whole.is;
+      field_here = whole_here c.args.file.now c.args.codes.now c.args.pool.now c.args.spans.now c.args.p c.requires c.field_at.result
+          c.field_at.ensures _ _ _ c.in-Whole.is;
     }
 
 pub returns-in-Cut : goal.returns-in-Cut
 returns-in-Cut c =
-    rw c.refused.ensures (cut-says c.args.file.now c.args.codes.now c.args.pool.now c.args.spans.now c.args.p c.requires c.field_at-field.result
-    c.field_at-field.ensures c.in-Cut.is)
+    rw c.fault.ensures (cut-says c.args.file.now c.args.codes.now c.args.pool.now c.args.spans.now c.args.p c.requires c.field_at.result
+    c.field_at.ensures c.in-Cut.is)
 
 pub returns-in-End : goal.returns-in-End
 returns-in-End c =
-    rw c.ended.ensures (end-says c.args.file.now c.args.codes.now c.args.pool.now c.args.spans.now c.args.p c.requires c.field_at-field.result
-    c.field_at-field.ensures c.in-End.is)
+    rw c.ended.ensures (end-says c.args.file.now c.args.codes.now c.args.pool.now c.args.spans.now c.args.p c.requires c.field_at.result
+    c.field_at.ensures c.in-End.is)
