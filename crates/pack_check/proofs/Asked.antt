@@ -12,7 +12,7 @@ use Rattle.levels.specs.clauses.Levels.{Writes}
 use Rattle.truth.specs.clauses.Written.{Begins}
 use Rattle.saturation.specs.Answer.{Checked}
 use Rattle.saturation.specs.declared.verdict.Verdict.{Verdict}
-use Rattle.saturation.specs.declared.verdict.Verdict.TheVariants.{Covered, Gap, Undecided, Refused}
+use Rattle.saturation.specs.declared.verdict.Verdict.TheVariants.{Covered, Gap, Undecided}
 use Rattle.guard_check.specs.clauses.Deciding.{FromGuard, Decided}
 use Rattle.guard_check.proofs.Tables.{of_guard}
 use Rattle.questions.specs.Questions.{whole_of, pair_of}
@@ -26,7 +26,6 @@ pub closed-covered : (v : Verdict) → is_open v ≡ false → v ≡ Covered
 closed-covered Covered e = refl
 closed-covered (Gap s) e = absurd (true≢false e)
 closed-covered Undecided e = absurd (true≢false e)
-closed-covered (Refused f) e = absurd (true≢false e)
 
 pub open-not-covered : (v : Verdict) → is_open v ≡ true → v ≡ Covered → ⊥
 open-not-covered v e c = true≢false (sym e ∙ ap is_open c)

@@ -12,14 +12,12 @@ use Rattle.guard_check.specs.Check.{depth_ceiling}
 use Rattle.questions.specs.clauses.Laying.{LineHeld, spans_room}
 use Rattle.packs.specs.Pack as pack
 use Rattle.packs.specs.Pack.{PackReading, refusal, line, pack_read}
-use Rattle.packs.specs.clauses.Says.{PackSays}
+use Rattle.std.specs.Prelude.{Ok, Err}
+use Rattle.packs.specs.clauses.Says.{Pack, PackSays}
 use Rattle.packs.specs.declared.read.Line.{Line}
-use Rattle.packs.specs.declared.read.Pack.{Pack}
-use Rattle.packs.specs.declared.read.Pack.TheVariants as answer
-use Rattle.pack_check.specs.PackCheck.{asked, PackReadingSays, PackChecked}
+use Rattle.pack_check.specs.PackCheck.{asked, PackVerdict, PackReadingSays, PackChecked}
 use Rattle.pack_check.specs.clauses.Asking.{Stands, LineAnswered}
-use Rattle.pack_check.specs.declared.verdict.PackVerdict.{PackVerdict}
-use Rattle.pack_check.specs.declared.verdict.PackVerdict.TheVariants as verdict
+use Rattle.pack_check.specs.declared.verdict.LineVerdict.{LineVerdict}
 
 asks-deep : (file : List ℕ) (depth : ℕ) → depth_ceiling < depth → asked file depth ≡ refusal (fault 2 0)
 unfolding asked
@@ -34,18 +32,18 @@ says : (file : List ℕ) (depth : ℕ) (x : PackReading) (r : PackVerdict) → a
 says file depth x r e s = subst (λ u. PackReadingSays u depth r) (sym e) s
 
 -- a depth over its ceiling
-pub too-deep : (file : List ℕ) (depth : ℕ) → depth_ceiling < depth → (f : Refusal) → f ≡ fault 2 0 → PackChecked file depth (verdict.Refused f)
-too-deep file depth d f e = says file depth (refusal (fault 2 0)) _ (asks-deep file depth d) (ap verdict.Refused e)
+pub too-deep : (file : List ℕ) (depth : ℕ) → depth_ceiling < depth → (f : Refusal) → f ≡ fault 2 0 → PackChecked file depth (Err f)
+too-deep file depth d f e = says file depth (refusal (fault 2 0)) _ (asks-deep file depth d) (ap Err e)
 
 -- the refusal that reading answered is that of the pack
 refusal-found : (file : List ℕ) (x : PackReading) (r : Pack) (codes pool spans : List ℕ) → PackSays file x r codes pool spans → (f : Refusal)
-    → r ≡ answer.Refused f → x ≡ refusal f
+    → r ≡ Err f → x ≡ refusal f
 refusal-found file (refusal h) r codes pool spans s f e =
-    let a : r ≡ answer.Refused h = s in
+    let a : r ≡ Err h = s in
     let b : h ≡ f = cc in
     ap refusal b
 refusal-found file (line l) r codes pool spans s f e =
-    let a : r ≡ answer.Line (record { flags = length l.flags; variants = length l.variants }) = s.answer in
+    let a : r ≡ Ok (record { flags = length l.flags; variants = length l.variants }) = s.answer in
     let z : ◌≡◌ {A = ℕ} 0 1 = cc in absurd (omega arith)
 
 -- the line that reading found is that of the pack
@@ -58,12 +56,12 @@ pub record LineFound (file : List ℕ) (x : PackReading) (found : Line) (pool sp
   pub rooms : (length pool ≡ 3 * connective_ceiling) × (length spans ≡ spans_room)
 
 pub line-found : (file : List ℕ) (x : PackReading) (r : Pack) (codes pool spans : List ℕ) → PackSays file x r codes pool spans → (found : Line)
-    → r ≡ answer.Line found → LineFound file x found pool spans
+    → r ≡ Ok found → LineFound file x found pool spans
 line-found file (refusal h) r codes pool spans s found e =
-    let a : r ≡ answer.Refused h = s in
+    let a : r ≡ Err h = s in
     let z : ◌≡◌ {A = ℕ} 0 1 = cc in absurd (omega arith)
 line-found file (line l) r codes pool spans s found e =
-    let a : r ≡ answer.Line (record { flags = length l.flags; variants = length l.variants }) = s.answer in
+    let a : r ≡ Ok (record { flags = length l.flags; variants = length l.variants }) = s.answer in
     let b : found ≡ record { flags = length l.flags; variants = length l.variants } = cc in
     record {
       its = l;
@@ -88,19 +86,18 @@ found-stands file x found pool spans f =
 module _ (file : List ℕ) (depth : ℕ) (d : depth ≤ depth_ceiling) where
   -- a refusal of the pack is passed on
   pub refused-too : (r : Pack) (codes pool spans : List ℕ) → PackSays file (pack_read file) r codes pool spans → (f : Refusal)
-      → r ≡ answer.Refused f → PackChecked file depth (verdict.Refused f)
+      → r ≡ Err f → PackChecked file depth (Err f)
   refused-too r codes pool spans s f e =
       says file depth (refusal f) _ (asks-pack file depth d ∙ refusal-found file (pack_read file) r codes pool spans s f e) refl
 
   -- what is answered of the line in the pool is what the pack says
-  pub line-too : (found : Line) (pool spans : List ℕ) → LineFound file (pack_read file) found pool spans → (r : PackVerdict)
-      → LineAnswered pool spans found.flags found.variants depth r → PackChecked file depth r
-  line-too found pool spans f (verdict.Line whole o) a =
+  pub line-too : (found : Line) (pool spans : List ℕ) → LineFound file (pack_read file) found pool spans → (v : LineVerdict)
+      → LineAnswered pool spans found.flags found.variants depth v → PackChecked file depth (Ok v)
+  line-too found pool spans f v a =
       let held : LineHeld found.flags f.its.rule f.its.variants spans pool = rw f.flags f.held in
-      says file depth (line f.its) _ (asks-pack file depth d ∙ f.says)
+      says file depth (line f.its) (Ok v) (asks-pack file depth d ∙ f.says)
       (rw (← f.flags)
       (record {
         whole-line = a.0 f.its.rule f.its.variants held (sym f.variants);
         pairs = a.1 f.its.rule f.its.variants held (sym f.variants);
       }))
-  line-too found pool spans f (verdict.Refused h) a = absurd a

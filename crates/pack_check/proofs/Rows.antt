@@ -9,7 +9,7 @@ use Rattle.saturation.specs.declared.verdict.Verdict.{Verdict}
 use Rattle.saturation.specs.declared.verdict.Verdict.TheVariants.{Covered}
 use Rattle.pack_check.specs.clauses.Asking.{PairAnswered, RowCovered, RowFound, RowAnswered, RowsCovered, PairsAnswered}
 use Rattle.pack_check.specs.declared.verdict.Overlap.{Overlap}
-use Rattle.pack_check.specs.declared.verdict.Overlap.TheVariants as overlap
+use Rattle.std.specs.Prelude.{Option, Some, None}
 
 module _ (pool spans : List ℕ) (n variants depth : ℕ) where
   -- no pair of variant i stands before the one after it
@@ -35,12 +35,12 @@ module _ (pool spans : List ℕ) (n variants depth : ℕ) where
       (lt-or-ge a i)
 
   -- all rows are covered, the last variant having no pair of its own
-  pub rows_all : (i : ℕ) → variants ≤ i → RowsCovered pool spans n variants depth i → PairsAnswered pool spans n variants depth overlap.None
+  pub rows_all : (i : ℕ) → variants ≤ i → RowsCovered pool spans n variants depth i → PairsAnswered pool spans n variants depth None
   rows_all i h r rule vs held many a b p = r a p.first (omega (arith, p.below, p.last, many)) b p.below (omega (arith, p.last, many)) rule vs held many
 
   -- the first pair of a row that is not covered, where all rows before it are
   pub rows-found : (i first j : ℕ) (v : Verdict) → 0 < i → RowsCovered pool spans n variants depth i
-      → RowFound pool spans n variants depth i first j v → PairsAnswered pool spans n variants depth (overlap.Pair first j v)
+      → RowFound pool spans n variants depth i first j v → PairsAnswered pool spans n variants depth (Some (record { first = first; second = j; verdict = v }))
   rows-found i first j v h r f rule vs held many =
       record {
         pair = record { first = omega (arith, f.same); below = omega (arith, f.same, f.below); last = omega (arith, f.last, many) };
@@ -55,12 +55,12 @@ module _ (pool spans : List ℕ) (n variants depth : ℕ) where
       }
 
   -- the same, by what the row answered
-  pub row-closed : (i : ℕ) (r : Overlap) → r ≡ overlap.None → RowAnswered pool spans n variants depth i r
+  pub row-closed : (i : ℕ) (r : Option Overlap) → r ≡ None → RowAnswered pool spans n variants depth i r
       → RowCovered pool spans n variants depth i (suc variants)
   row-closed i r e a = subst (λ u. RowAnswered pool spans n variants depth i u) e a
 
-  pub row_open : (i first j : ℕ) (v : Verdict) (r : Overlap) → r ≡ overlap.Pair first j v → 0 < i → RowsCovered pool spans n variants depth i
+  pub row_open : (i : ℕ) (o : Overlap) (r : Option Overlap) → r ≡ Some o → 0 < i → RowsCovered pool spans n variants depth i
       → RowAnswered pool spans n variants depth i r → PairsAnswered pool spans n variants depth r
-  row_open i first j v r e h c a =
+  row_open i o r e h c a =
       subst (λ u. PairsAnswered pool spans n variants depth u) (sym e)
-      (rows-found i first j v h c (subst (λ u. RowAnswered pool spans n variants depth i u) e a))
+      (rows-found i o.first o.second o.verdict h c (subst (λ u. RowAnswered pool spans n variants depth i u) e a))

@@ -1,5 +1,5 @@
 -- What the check of a line pack answers at a depth: for the whole line, and for the first pair of variants that is not covered.
-use Rattle.std.specs.Prelude.{ℕ, ◌≤◌, ◌<◌, ◌≡◌, ◌⊎◌, List, length, leb}
+use Rattle.std.specs.Prelude.{ℕ, ◌≤◌, ◌<◌, ◌≡◌, ◌⊎◌, List, length, leb, Option, Some, None, Result, Err, IsOkAnd}
 use Rattle.ground.specs.Choice.{choose}
 use Rattle.notation.specs.Refusals.{fault}
 use Rattle.notation.specs.Guard.{Guard}
@@ -10,9 +10,12 @@ use Rattle.guard_check.specs.Check.{depth_ceiling}
 use Rattle.questions.specs.Questions.{whole_of, pair_of}
 use Rattle.packs.specs.Pack.{PackReading, refusal, line, pack_read}
 use Rattle.pack_check.specs.declared.verdict.Overlap.{Overlap}
-use Rattle.pack_check.specs.declared.verdict.Overlap.TheVariants as overlap
-use Rattle.pack_check.specs.declared.verdict.PackVerdict.{PackVerdict}
-use Rattle.pack_check.specs.declared.verdict.PackVerdict.TheVariants as verdict
+use Rattle.pack_check.specs.declared.verdict.LineVerdict.{LineVerdict}
+use Rattle.notation.specs.declared.refusal.Refusal.{Refusal}
+
+-- both answers of a line, or the refusal of its pack
+abbrev pub PackVerdict : Type 0
+PackVerdict = Result LineVerdict Refusal
 
 -- a depth over its ceiling is refused first; then the pack decides
 unfoldable pub asked : List ℕ → ℕ → PackReading
@@ -41,20 +44,19 @@ module _ (n : ℕ) (rule : Guard) (variants : List Guard) (depth : ℕ) where
     pub before : (a b : ℕ) → IsPair variants a b → Before a b i j → PairIs a b Covered
 
   -- no pair, where every one is covered; or the first that is not
-  abbrev pub OverlapSays : Overlap → Type 0
-  OverlapSays overlap.None = (i j : ℕ) → IsPair variants i j → PairIs i j Covered
-  OverlapSays (overlap.Pair i j v) = FirstPair i j v
+  abbrev pub OverlapSays : Option Overlap → Type 0
+  OverlapSays None = (i j : ℕ) → IsPair variants i j → PairIs i j Covered
+  OverlapSays (Some o) = FirstPair o.first o.second o.verdict
 
   -- both answers of a line
-  pub record LineSays (whole : Verdict) (overlap : Overlap) : Type 0 where
+  pub record LineSays (whole : Verdict) (overlap : Option Overlap) : Type 0 where
     pub whole-line : Checked n (whole_of rule variants) depth whole
     pub pairs : OverlapSays overlap
 
 -- a refusal is passed on, and a line is answered
 abbrev pub PackReadingSays : PackReading → ℕ → PackVerdict → Type 0
-PackReadingSays (refusal f) depth r = r ≡ verdict.Refused f
-PackReadingSays (line l) depth (verdict.Line whole overlap) = LineSays (length l.flags) l.rule l.variants depth whole overlap
-PackReadingSays (line l) depth (verdict.Refused f) = ⊥
+PackReadingSays (refusal f) depth r = r ≡ Err f
+PackReadingSays (line l) depth r = IsOkAnd r (λ v. LineSays (length l.flags) l.rule l.variants depth v.whole v.overlap)
 
 -- what the check of a pack answers
 abbrev pub PackChecked : List ℕ → ℕ → PackVerdict → Type 0

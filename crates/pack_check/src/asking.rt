@@ -13,12 +13,7 @@ use saturation::verdict::Verdict;
 fn is_open(verdict: Verdict) -> bool
     ensures { result ≡ is_open verdict }
 {
-    match verdict {
-        Verdict::Covered => false,
-        Verdict::Gap(_) => true,
-        Verdict::Undecided => true,
-        Verdict::Refused(_) => true,
-    }
+    !matches!(verdict, Verdict::Covered)
 }
 
 // Whether a variant is there in every state of the rule.
@@ -69,26 +64,24 @@ fn ask_row(
     i: usize,
     depth: u64,
     out: &mut [u16; TRIPLETS_ROOM],
-) -> Overlap
+) -> Option<Overlap>
     requires stands { Stands pool.now spans.now flags variants }
     requires rooms { Rooms pool.now spans.now out.old }
     requires i_nonzero { (0 < i) × (i < variants) }
     ensures { RowAnswered pool.now spans.now flags variants depth i result
         × Rooms pool.now spans.now out.new }
 {
-    let mut j = i + 1;
-    while j <= variants {
+    for j in i + 1..variants + 1 {
         let verdict = ask_pair(pool, spans, flags, variants, i, j, depth, out);
         if is_open(verdict) {
-            return Overlap::Pair {
+            return Some(Overlap {
                 first: i,
                 second: j,
                 verdict,
-            };
+            });
         }
-        j += 1;
     }
-    Overlap::None
+    None
 }
 
 // The first pair, by its first variant and then its second.
@@ -99,19 +92,16 @@ pub fn ask_pairs(
     variants: usize,
     depth: u64,
     out: &mut [u16; TRIPLETS_ROOM],
-) -> Overlap
+) -> Option<Overlap>
     requires stands { Stands pool.now spans.now flags variants }
     requires rooms { Rooms pool.now spans.now out.old }
     ensures { PairsAnswered pool.now spans.now flags variants depth result
         × Rooms pool.now spans.now out.new }
 {
-    let mut i = 1;
-    while i < variants {
-        let found = ask_row(pool, spans, flags, variants, i, depth, out);
-        let Overlap::None = found else {
-            return found;
-        };
-        i += 1;
+    for i in 1..variants {
+        if let Some(overlap) = ask_row(pool, spans, flags, variants, i, depth, out) {
+            return Some(overlap);
+        }
     }
-    Overlap::None
+    None
 }

@@ -6,11 +6,11 @@ ghost use Rattle.pack_check.specs.PackCheck.{PackChecked};
 ghost use Rattle.pack_check.specs.clauses.Asking.{Stands, LineAnswered};
 
 use crate::asking::{ask_pairs, ask_whole};
-use crate::verdict::PackVerdict;
+use crate::verdict::LineVerdict;
 use guard_check::check::DEPTH;
 use notation::ceilings::{CODES_ROOM, TRIPLETS_ROOM};
 use notation::refusal::{Refusal, fault};
-use packs::read::{Pack, read_pack};
+use packs::read::read_pack;
 use questions::SPANS_ROOM;
 
 // Both answers for the line whose guards stand in the pool.
@@ -20,7 +20,7 @@ fn answered(
     flags: usize,
     variants: usize,
     depth: u64,
-) -> PackVerdict
+) -> LineVerdict
     requires stands { Stands pool.now spans.now flags variants }
     requires pool_len { (length pool.now ≡ 3 * connective_ceiling) × (length spans.now ≡ spans_room) }
     ensures { LineAnswered pool.now spans.now flags variants depth result }
@@ -28,22 +28,20 @@ fn answered(
     let mut out = [0u16; TRIPLETS_ROOM];
     let whole = ask_whole(pool, spans, flags, variants, depth, &mut out);
     let overlap = ask_pairs(pool, spans, flags, variants, depth, &mut out);
-    PackVerdict::Line { whole, overlap }
+    LineVerdict { whole, overlap }
 }
 
 // The depth is refused before anything that stands in the pack.
-pub fn check_pack(pack: &[u8], depth: u64) -> PackVerdict
+pub fn check_pack(pack: &[u8], depth: u64) -> Result<LineVerdict, Refusal>
     ensures { PackChecked pack.now depth result }
 {
     if DEPTH < depth {
-        return PackVerdict::Refused(fault(2, 0));
+        return Err(fault(2, 0));
     }
     let mut codes = [0usize; CODES_ROOM];
     let mut pool = [0u16; TRIPLETS_ROOM];
     let mut spans = [0usize; SPANS_ROOM];
-    let read = read_pack(pack, &mut codes, &mut pool, &mut spans);
-    match read {
-        Pack::Refused(refusal) => PackVerdict::Refused(refusal),
-        Pack::Line(line) => answered(&pool, &spans, line.flags, line.variants, depth),
-    }
+    let line = read_pack(pack, &mut codes, &mut pool, &mut spans)?;
+    let verdict = answered(&pool, &spans, line.flags, line.variants, depth);
+    Ok(verdict)
 }

@@ -1,23 +1,20 @@
 -- What putting the questions of a line asks and answers: some line stands in the pool, and what is answered holds of whichever does.
-use Rattle.std.specs.Prelude.{ℕ, suc, ◌≤◌, ◌<◌, ◌≡◌, Bool, true, false, List, length}
+use Rattle.std.specs.Prelude.{ℕ, suc, ◌≤◌, ◌<◌, ◌≡◌, Bool, true, false, List, length, Option, Some, None}
 use Rattle.notation.specs.Guard.{Guard}
 use Rattle.saturation.specs.Answer.{Checked}
 use Rattle.saturation.specs.declared.verdict.Verdict.{Verdict}
-use Rattle.saturation.specs.declared.verdict.Verdict.TheVariants.{Covered, Gap, Undecided, Refused}
+use Rattle.saturation.specs.declared.verdict.Verdict.TheVariants.{Covered, Gap, Undecided}
 use Rattle.questions.specs.Questions.{whole_of}
 use Rattle.questions.specs.clauses.Laying.{LineHeld}
 use Rattle.pack_check.specs.PackCheck.{PairIs, OverlapSays}
 use Rattle.pack_check.specs.declared.verdict.Overlap.{Overlap}
-use Rattle.pack_check.specs.declared.verdict.Overlap.TheVariants as overlap
-use Rattle.pack_check.specs.declared.verdict.PackVerdict.{PackVerdict}
-use Rattle.pack_check.specs.declared.verdict.PackVerdict.TheVariants as verdict
+use Rattle.pack_check.specs.declared.verdict.LineVerdict.{LineVerdict}
 
 -- an answer is any other than covered
 abbrev pub is_open : Verdict → Bool
 is_open Covered = false
 is_open (Gap s) = true
 is_open Undecided = true
-is_open (Refused f) = true
 
 -- a line of n flags and so many variants stands in the pool
 pub record Stands (pool spans : List ℕ) (n variants : ℕ) : Type 0 where
@@ -52,20 +49,19 @@ pub record RowFound (pool spans : List ℕ) (n variants depth i first j : ℕ) (
   pub before : RowCovered pool spans n variants depth i j
 
 -- the pairs of variant i: all covered, or the first that is not
-abbrev pub RowAnswered : List ℕ → List ℕ → ℕ → ℕ → ℕ → ℕ → Overlap → Type 0
-RowAnswered pool spans n variants depth i overlap.None = RowCovered pool spans n variants depth i (suc variants)
-RowAnswered pool spans n variants depth i (overlap.Pair first j v) = RowFound pool spans n variants depth i first j v
+abbrev pub RowAnswered : List ℕ → List ℕ → ℕ → ℕ → ℕ → ℕ → Option Overlap → Type 0
+RowAnswered pool spans n variants depth i None = RowCovered pool spans n variants depth i (suc variants)
+RowAnswered pool spans n variants depth i (Some o) = RowFound pool spans n variants depth i o.first o.second o.verdict
 
 -- the pairs of each variant before variant i are covered
 abbrev pub RowsCovered : List ℕ → List ℕ → ℕ → ℕ → ℕ → ℕ → Type 0
 RowsCovered pool spans n variants depth i = (a : ℕ) → 0 < a → a < i → RowCovered pool spans n variants depth a (suc variants)
 
 -- all pairs: all covered, or the first that is not
-abbrev pub PairsAnswered : List ℕ → List ℕ → ℕ → ℕ → ℕ → Overlap → Type 0
+abbrev pub PairsAnswered : List ℕ → List ℕ → ℕ → ℕ → ℕ → Option Overlap → Type 0
 PairsAnswered pool spans n variants depth r = OfEach pool spans n variants (λ rule vs. OverlapSays n rule vs depth r)
 
--- both answers of a line, and no refusal
-abbrev pub LineAnswered : List ℕ → List ℕ → ℕ → ℕ → ℕ → PackVerdict → Type 0
-LineAnswered pool spans n variants depth (verdict.Line whole o) =
-    WholeAnswered pool spans n variants depth whole × PairsAnswered pool spans n variants depth o
-LineAnswered pool spans n variants depth (verdict.Refused f) = ⊥
+-- both answers of a line
+abbrev pub LineAnswered : List ℕ → List ℕ → ℕ → ℕ → ℕ → LineVerdict → Type 0
+LineAnswered pool spans n variants depth r =
+    WholeAnswered pool spans n variants depth r.whole × PairsAnswered pool spans n variants depth r.overlap

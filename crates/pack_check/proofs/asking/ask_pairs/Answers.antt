@@ -1,8 +1,12 @@
+use mathlib.Core.Path.{refl, subst}
+use Rattle.std.specs.Prelude.{Some}
+use Rattle.pack_check.specs.clauses.Asking.{RowAnswered}
 use Rattle.pack_check.proofs.Rows.{row_open}
 use Rattle.pack_check.proofs.asking.ask_pairs.Goals as goal
 
-pub returns-in_default : goal.returns-in_default
-returns-in_default c = (
-  row_open _ _ _ _ c.args.depth c.loop-i.i _ _ _ c.ask_row-found.result c.in_default.is c.loop-i.invariant.0 c.loop-i.invariant.3 c.ask_row-found.ensures.0,
-  c.ask_row-found.ensures.1,
+pub returns-in-Some : goal.returns-in-Some
+returns-in-Some c = (
+  row_open _ _ _ _ c.args.depth c.loop-i.i c.in-Some.overlap (Some c.in-Some.overlap) refl c.loop-i.invariant.0 c.loop-i.invariant.3
+      c.in-Some.ensures.0,
+  c.in-Some.ensures.1,
 )
