@@ -10,15 +10,13 @@ use Rattle.notation.specs.Guard.{Guard}
 use Rattle.notation.specs.Triplets.{literal, triplets}
 use Rattle.saturation.specs.Answer.{Checked}
 use Rattle.saturation.specs.declared.verdict.Verdict.{Verdict}
-use Rattle.saturation.specs.declared.verdict.Verdict.TheVariants.{Covered, Gap, Undecided, Refused}
+use Rattle.saturation.specs.declared.verdict.Verdict.TheVariants.{Covered, Gap, Undecided}
 use Rattle.verdict_laws.proofs.Answered.{outline-exists, outline-says}
 use Rattle.questions.specs.Questions.{whole_of, pair_of}
 use Rattle.packs.specs.Pack.{PackReading, refusal, line}
-use Rattle.pack_check.specs.PackCheck.{asked, PairIs, FirstPair, OverlapSays, PackReadingSays, PackChecked}
+use Rattle.pack_check.specs.PackCheck.{asked, PackVerdict, line_with, pair_with, PairIs, FirstPair, OverlapSays, PackReadingSays, PackChecked}
 use Rattle.pack_check.specs.declared.verdict.Overlap.{Overlap}
-use Rattle.pack_check.specs.declared.verdict.Overlap.TheVariants as overlap
-use Rattle.pack_check.specs.declared.verdict.PackVerdict.{PackVerdict}
-use Rattle.pack_check.specs.declared.verdict.PackVerdict.TheVariants as verdict
+use Rattle.std.specs.Prelude.{Option, Some, None, Ok, Err}
 
 -- check has an answer for every guard
 pub checked-exists : (n : ℕ) (g : Guard) (k : ℕ) → (v : Verdict) × Checked n g k v
@@ -30,7 +28,6 @@ is-covered : (v : Verdict) → (v ≡ Covered) ⊎ (v ≡ Covered → ⊥)
 is-covered Covered = inl refl
 is-covered (Gap s) = inr (λ (e : Gap s ≡ Covered). let z : ◌≡◌ {A = ℕ} 0 1 = cc in omega arith)
 is-covered Undecided = inr (λ (e : Undecided ≡ Covered). let z : ◌≡◌ {A = ℕ} 0 1 = cc in omega arith)
-is-covered (Refused f) = inr (λ (e : Refused f ≡ Covered). let z : ◌≡◌ {A = ℕ} 0 1 = cc in omega arith)
 
 -- ---- the first pair that is not covered, row by row
 module _ (n : ℕ) (rule : Guard) (vs : List Guard) (depth : ℕ) where
@@ -124,20 +121,20 @@ module _ (n : ℕ) (rule : Guard) (vs : List Guard) (depth : ℕ) where
       (λ (f : SomeFirst). inr f)
       (rows m)
 
-  overlap-exists : (o : Overlap) × OverlapSays n rule vs depth o
+  overlap-exists : (o : Option Overlap) × OverlapSays n rule vs depth o
   overlap-exists =
       ⊎_elim
-      (λ (r : RowsTo (length vs)). (overlap.None, λ i j p. r i p.first (omega (arith, p.below, p.last)) j p.below p.last))
-      (λ (f : SomeFirst). (overlap.Pair f.0 f.1 f.2, f.3))
+      (λ (r : RowsTo (length vs)). (None, λ i j p. r i p.first (omega (arith, p.below, p.last)) j p.below p.last))
+      (λ (f : SomeFirst). (pair_with f.0 f.1 f.2, f.3))
       (rows (length vs))
 
 reading-answers : (x : PackReading) (depth : ℕ) → (r : PackVerdict) × PackReadingSays x depth r
-reading-answers (refusal f) depth = (verdict.Refused f, refl)
+reading-answers (refusal f) depth = (Err f, refl)
 reading-answers (line l) depth =
     let n : ℕ = length l.flags in
     let w = checked-exists n (whole_of l.rule l.variants) depth in
     let o = overlap-exists n l.rule l.variants depth in
-    (verdict.Line w.0 o.0, record { whole-line = w.1; pairs = o.1 })
+    (line_with w.0 o.0, record { whole-line = w.1; pairs = o.1 })
 
 -- the statement of the check of packs has an answer for every byte string and depth
 pub pack-answers : (file : List ℕ) (depth : ℕ) → (r : PackVerdict) × PackChecked file depth r

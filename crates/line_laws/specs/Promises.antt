@@ -4,12 +4,12 @@ use Rattle.notation.specs.Guard.{Guard}
 use Rattle.truth.specs.clauses.Written.{Proper}
 use Rattle.truth.specs.Value.{value}
 use Rattle.saturation.specs.declared.verdict.Verdict.{Verdict}
-use Rattle.saturation.specs.declared.verdict.Verdict.TheVariants.{Covered, Gap, Undecided, Refused}
+use Rattle.saturation.specs.declared.verdict.Verdict.TheVariants.{Covered, Gap, Undecided}
 use Rattle.questions.specs.Questions.{whole_of, guard_at, pair_of}
 use Rattle.packs.specs.Pack.{Line, line, pack_read}
 use Rattle.pack_check.specs.PackCheck.{IsPair, Before}
 use Rattle.pack_check.specs.declared.verdict.Overlap.{Overlap}
-use Rattle.pack_check.specs.declared.verdict.Overlap.TheVariants as overlap
+use Rattle.std.specs.Prelude.{Option, Some, None}
 
 -- how many flags the pack has
 abbrev pub flags_of : Line → ℕ
@@ -91,18 +91,20 @@ abbrev pub WholeMeans : Line → ℕ → Verdict → Type 0
 WholeMeans l depth Covered = NeverMissing l
 WholeMeans l depth (Gap s) = FirstMissing l s
 WholeMeans l depth Undecided = depth < flags_of l
-WholeMeans l depth (Refused f) = ⊥
 
--- what the answer for the pairs means; no pair is named that is covered, and undecided is said only as above
-abbrev pub PairsMean : Line → ℕ → Overlap → Type 0
-PairsMean l depth overlap.None = NoneTogether l
-PairsMean l depth (overlap.Pair i j (Gap s)) = FirstTogether l i j s
-PairsMean l depth (overlap.Pair i j Undecided) = NoneBefore l i j × (depth < flags_of l)
-PairsMean l depth (overlap.Pair i j Covered) = ⊥
-PairsMean l depth (overlap.Pair i j (Refused f)) = ⊥
+-- what the answer for the pair i, j means; no pair is named that is covered, and undecided is said only as above
+abbrev pub PairMeans : Line → ℕ → ℕ → ℕ → Verdict → Type 0
+PairMeans l depth i j (Gap s) = FirstTogether l i j s
+PairMeans l depth i j Undecided = NoneBefore l i j × (depth < flags_of l)
+PairMeans l depth i j Covered = ⊥
+
+-- what the answer for the pairs means
+abbrev pub PairsMean : Line → ℕ → Option Overlap → Type 0
+PairsMean l depth None = NoneTogether l
+PairsMean l depth (Some o) = PairMeans l depth o.first o.second o.verdict
 
 -- what the two answers for a pack promise: it is read as a line, and of that line both are as they say
-pub record Promised (file : List ℕ) (depth : ℕ) (w : Verdict) (o : Overlap) : Type 0 where
+pub record Promised (file : List ℕ) (depth : ℕ) (w : Verdict) (o : Option Overlap) : Type 0 where
   pub its : Line
   pub says : pack_read file ≡ line its
   pub whole : WholeMeans its depth w

@@ -1,5 +1,5 @@
 -- What the check of a line pack answers at a depth: for the whole line, and for the first pair of variants that is not covered.
-use Rattle.std.specs.Prelude.{ℕ, ◌≤◌, ◌<◌, ◌≡◌, ◌⊎◌, List, length, leb, Option, Some, None, Result, Err, IsOkAnd}
+use Rattle.std.specs.Prelude.{ℕ, ◌≤◌, ◌<◌, ◌≡◌, ◌⊎◌, List, length, leb, Option, Some, None, Result, Ok, Err, IsOkAnd}
 use Rattle.ground.specs.Choice.{choose}
 use Rattle.notation.specs.Refusals.{fault}
 use Rattle.notation.specs.Guard.{Guard}
@@ -16,6 +16,14 @@ use Rattle.notation.specs.declared.refusal.Refusal.{Refusal}
 -- both answers of a line, or the refusal of its pack
 abbrev pub PackVerdict : Type 0
 PackVerdict = Result LineVerdict Refusal
+
+-- these two answers of a line
+abbrev pub line_with : Verdict → Option Overlap → PackVerdict
+line_with w o = Ok (record { whole = w; overlap = o })
+
+-- the pair i, j with this answer
+abbrev pub pair_with : ℕ → ℕ → Verdict → Option Overlap
+pair_with i j v = Some (record { first = i; second = j; verdict = v })
 
 -- a depth over its ceiling is refused first; then the pack decides
 unfoldable pub asked : List ℕ → ℕ → PackReading
