@@ -5,12 +5,9 @@ ghost use Rattle.covercheck.specs.clauses.Calls.{MovedSays};
 use crate::pause::pause;
 use std::io::{Error, ErrorKind, Read, Write};
 
-// How many bytes were moved, or that the call failed.
+// A call failed, and that was told.
 #[derive(Clone, Copy)]
-pub enum Moved {
-    Bytes(usize),
-    Failed,
-}
+pub struct Told;
 
 // How often a call is made again at most: it has to end, and no machine lasts as long.
 const TURNS: u64 = 18446744073709551615;
@@ -33,51 +30,41 @@ fn is_passing(rt: &HostRuntime, error: &Error) -> bool {
 }
 
 // One line on standard error: what cannot be, and why. Where that cannot be said either, nothing is left to say it to.
-pub fn fail(rt: &HostRuntime, what: &str, why: Error) {
-    match eprintln!(rt; "covercheck: {what}: {why}") {
-        Ok(()) => {}
-        Err(_) => {}
-    }
+pub fn fail(rt: &HostRuntime, what: &str, why: Error) -> Told {
+    let _ = eprintln!(rt; "covercheck: {what}: {why}");
+    Told
 }
 
 // Reads into the slice: at least one byte, or none at the end of the input. A read that fails is told.
-pub fn read_some(rt: &HostRuntime, into: &mut [u8]) -> Moved
+pub fn read_some(rt: &HostRuntime, into: &mut [u8]) -> Result<usize, Told>
     ensures { MovedSays (length into.old) result }
 {
-    let mut turns = TURNS;
-    while 0 < turns {
+    for _ in 0..TURNS {
         match rt.stdin().read(into) {
-            Ok(got) => return Moved::Bytes(got),
+            Ok(got) => return Ok(got),
             Err(error) => {
                 if !is_passing(rt, &error) {
-                    fail(rt, UNREAD, error);
-                    return Moved::Failed;
+                    return Err(fail(rt, UNREAD, error));
                 }
             }
         }
-        turns -= 1;
     }
-    fail(rt, UNREAD, Error::from(ErrorKind::Interrupted));
-    Moved::Failed
+    Err(fail(rt, UNREAD, Error::from(ErrorKind::Interrupted)))
 }
 
 // Writes some of the bytes: at least one, where there are any. A write that fails is told.
-pub fn write_some(rt: &HostRuntime, bytes: &[u8]) -> Moved
+pub fn write_some(rt: &HostRuntime, bytes: &[u8]) -> Result<usize, Told>
     ensures { MovedSays (length bytes.now) result }
 {
-    let mut turns = TURNS;
-    while 0 < turns {
+    for _ in 0..TURNS {
         match rt.stdout().write(bytes) {
-            Ok(put) => return Moved::Bytes(put),
+            Ok(put) => return Ok(put),
             Err(error) => {
                 if !is_passing(rt, &error) {
-                    fail(rt, LOST, error);
-                    return Moved::Failed;
+                    return Err(fail(rt, LOST, error));
                 }
             }
         }
-        turns -= 1;
     }
-    fail(rt, LOST, Error::from(ErrorKind::Interrupted));
-    Moved::Failed
+    Err(fail(rt, LOST, Error::from(ErrorKind::Interrupted)))
 }

@@ -2,30 +2,19 @@
 ghost use Rattle.std.specs.Prelude.{length};
 ghost use Rattle.covercheck.specs.clauses.Calls.{InputSays};
 
-use crate::calls::{Moved, read_some};
+use crate::calls::{Told, read_some};
 
-// The input ended after so many bytes; it filled the slice before it ended; or a read failed.
-#[derive(Clone, Copy)]
-pub enum Input {
-    Ended(usize),
-    Over,
-    Failed,
-}
-
-// Reads until the input ends or the slice is full.
-pub fn read_whole(rt: &HostRuntime, into: &mut [u8]) -> Input
+// Reads until the input ends, and answers how many bytes it has; or none where it filled the slice before it ended.
+pub fn read_whole(rt: &HostRuntime, into: &mut [u8]) -> Result<Option<usize>, Told>
     ensures { InputSays (length into.old) result }
 {
     let mut done = 0;
     while done < into.len() {
-        let moved = read_some(rt, &mut into[done..]);
-        let Moved::Bytes(more) = moved else {
-            return Input::Failed;
-        };
+        let more = read_some(rt, &mut into[done..])?;
         if more == 0 {
-            return Input::Ended(done);
+            return Ok(Some(done));
         }
         done += more;
     }
-    Input::Over
+    Ok(None)
 }

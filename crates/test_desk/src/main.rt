@@ -78,10 +78,8 @@ fn ceilings() {
     reading(b"((((((((((((((((((((((((((((((((A))))))))))))))))))))))))))))))))");
     reading(b"(((((((((((((((((((((((((((((((((A)))))))))))))))))))))))))))))))))");
     let mut chain = [62u8; 513];
-    let mut i = 0;
-    while i < 513 {
-        chain[i] = 65;
-        i += 2;
+    for i in 0..257 {
+        chain[2 * i] = 65;
     }
     reading_of(b"255 connectives", &chain[0..511]);
     reading_of(b"256 connectives", &chain[0..513]);

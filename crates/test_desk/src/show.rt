@@ -1,12 +1,12 @@
 // Prints a text and what a service answers for it, one line each.
-use evaluate::{Evaluation, evaluate};
+use evaluate::evaluate;
 use gaps::writing::Found;
 use guard_check::check::check;
-use list::{Listing, list};
+use list::list;
 use notation::ceilings::TRIPLETS_ROOM;
 use notation::refusal::Refusal;
-use reading::name::{Named, name, part};
-use reading::parse::{Guard, Parsed};
+use reading::name::{Stretch, name, part};
+use reading::parse::Guard;
 use reading::read::read;
 use saturation::verdict::Verdict;
 
@@ -17,10 +17,6 @@ fn say(bytes: &[u8]) {
 fn say_number(n: u64) {
     say(b" ");
     io::print_decimal(1, n);
-}
-
-fn say_small(n: u16) {
-    say_number(n as u64);
 }
 
 fn say_refusal(refusal: Refusal) {
@@ -35,19 +31,17 @@ fn say_guard(guard: Guard) {
     say_number(guard.root as u64);
 }
 
-fn say_parsed(parsed: Parsed) {
+fn say_parsed(parsed: Result<Guard, Refusal>) {
     match parsed {
-        Parsed::Guard(guard) => say_guard(guard),
-        Parsed::Refused(refusal) => say_refusal(refusal),
+        Ok(guard) => say_guard(guard),
+        Err(refusal) => say_refusal(refusal),
     }
 }
 
 fn say_room(room: &[u16]) {
     say(b" :");
-    let mut i = 0;
-    while i < room.len() {
-        say_small(room[i]);
-        i += 1;
+    for number in room {
+        say_number(u64::from(*number));
     }
 }
 
@@ -78,13 +72,13 @@ pub fn reading_into(text: &[u8], room: &mut [u16]) {
     say(b"\n");
 }
 
-fn say_named(text: &[u8], named: Named) {
+fn say_named(text: &[u8], named: Result<Stretch, Refusal>) {
     match named {
-        Named::Part { start, len } => {
+        Ok(Stretch { start, len }) => {
             say_number(start as u64);
             say_number(len as u64);
         }
-        Named::Refused(refusal) => say_refusal(refusal),
+        Err(refusal) => say_refusal(refusal),
     }
     say(b" [");
     say(part(text, named));
@@ -108,10 +102,10 @@ fn say_value(value: bool) {
     say(b" false\n");
 }
 
-fn say_evaluation(evaluation: Evaluation) {
+fn say_evaluation(evaluation: Result<bool, Refusal>) {
     match evaluation {
-        Evaluation::Value(value) => say_value(value),
-        Evaluation::Refused(refusal) => {
+        Ok(value) => say_value(value),
+        Err(refusal) => {
             say_refusal(refusal);
             say(b"\n");
         }
@@ -141,23 +135,17 @@ fn say_found(found: Found) {
     }
 }
 
-fn say_listing(listing: Listing) {
+fn say_listing(listing: Result<Found, Refusal>) {
     match listing {
-        Listing::Gaps(found) => say_found(found),
-        Listing::Refused(refusal) => say_refusal(refusal),
+        Ok(found) => say_found(found),
+        Err(refusal) => say_refusal(refusal),
     }
-}
-
-fn say_state(n: u32) {
-    say_number(n as u64);
 }
 
 fn say_states(out: &[u32]) {
     say(b" :");
-    let mut i = 0;
-    while i < out.len() {
-        say_state(out[i]);
-        i += 1;
+    for state in out {
+        say_number(u64::from(*state));
     }
 }
 
@@ -172,15 +160,15 @@ pub fn listing(text: &[u8], start: u64, out: &mut [u32]) {
     say(b"\n");
 }
 
-fn say_verdict(verdict: Verdict) {
+fn say_verdict(verdict: Result<Verdict, Refusal>) {
     match verdict {
-        Verdict::Covered => say(b" covered"),
-        Verdict::Gap(state) => {
+        Ok(Verdict::Covered) => say(b" covered"),
+        Ok(Verdict::Gap(state)) => {
             say(b" gap");
             say_number(state);
         }
-        Verdict::Undecided => say(b" undecided"),
-        Verdict::Refused(refusal) => say_refusal(refusal),
+        Ok(Verdict::Undecided) => say(b" undecided"),
+        Err(refusal) => say_refusal(refusal),
     }
 }
 
