@@ -4,7 +4,8 @@ use native.Mathlib.Omega.{arith}
 use mathlib.Core.Path.{◌≡◌, refl, sym, ap, subst, ◌∙◌}
 use mathlib.Core.Bool.{Bool, true, false, true≢false}
 use mathlib.Core.List.{List, [], ◌∷◌, ◌++◌}
-use lib.ListN.{length, get_or, set, length-append, length-set}
+use lib.ListN.{length, length-append, length-set}
+use Rattle.std.specs.Prelude.{Result, Err}
 use lib.Dec.{leb}
 use borrow.Author.Tests.{le-leb, lt-leb}
 use Rattle.notation.specs.Ceilings.{flag_ceiling}
@@ -16,7 +17,7 @@ use Rattle.notation.specs.Grammar.{Level, found, number, past, closed, operand_o
 use Rattle.notation.specs.Triplets.{literal, triplets, literal_ceiling}
 use Rattle.notation.specs.clauses.Cut.{part, ahead_as, ahead, ends}
 use Rattle.notation.specs.clauses.Codes.{flags_in, flag_at, InText, Keyed, PlaceOf, entered}
-use Rattle.notation.specs.clauses.Place.{place_room, kind_of, token_in, RefusedAt}
+use Rattle.notation.specs.clauses.Place.{RefusedAt}
 use Rattle.operands.specs.clauses.Steps.{
   At,
   binding,
@@ -29,18 +30,15 @@ use Rattle.operands.specs.clauses.Steps.{
   PastTokenSays,
   Atom,
   AtomSays,
-  RefusedSays,
   ClosedSays,
 }
 use Rattle.notation.specs.declared.refusal.Refusal.{Refusal}
 use Rattle.notation.specs.declared.place.Kind.{Kind}
 use Rattle.notation.specs.declared.place.Kind.TheVariants as kind
-use Rattle.notation.specs.declared.place.Step.{Step}
-use Rattle.notation.specs.declared.place.Step.TheVariants as step
-use Rattle.operands.specs.declared.Answer.{Answer}
-use Rattle.operands.specs.declared.Answer.TheVariants as answer
+use Rattle.notation.specs.declared.place.Place.{Place}
+use Rattle.notation.specs.declared.refusal.Refused.{Refused}
 use Rattle.notation.proofs.Coding.{known-number, flags-length, flags-entered, in-text-entered}
-use Rattle.notation.proofs.Placing.{eight, never_both}
+use Rattle.notation.proofs.Placing.{never_both}
 
 -- no sign binds tighter than `&`
 pub no-tighter : (s : Sign) → binding s ≤ 0 → ⊥
@@ -64,10 +62,6 @@ pub record OneToken (text : List ℕ) (at : At) (codes codes' : List ℕ) (n : �
   pub walked : (d : ℕ) → walk operand d (flags_in text codes at.flags) at.signs (ahead text at.token) ≡ walk after d (flags_in text codes' n)
       at.signs (past (ahead text at.token))
   pub standing : Standing text codes' (with_flags at n)
-
--- an answer is not both
-pub never-answer : {A : Type 0} (l : ℕ) (r : Answer) → r ≡ answer.Found l → r ≡ answer.Refused → A
-never-answer l r e f = let z : ◌≡◌ {A = ℕ} 0 1 = cc in absurd (omega arith)
 
 module _ {text : List ℕ} {at : At} {codes codes' : List ℕ} {n : ℕ} {g : Guard} {l : ℕ} (o : OneToken text at codes codes' n g l) where
   -- such an operand, once the reader is past its token
@@ -98,50 +92,20 @@ module _ {text : List ℕ} {at : At} {codes codes' : List ℕ} {n : ℕ} {g : Gu
     later = a.later;
   }
 
--- the reader stands at p₁ with n flags, else as at p
-pub record FlagsStored (n : ℕ) (p p₁ : List ℕ) : Type 0 where
-  pub stands : place p₁ ≡ with_flags (place p) n
-  pub waits : get_or p₁ 7 0 ≡ get_or p 7 0
-  pub room : length p₁ ≡ place_room
-
-pub flags-stored : (n : ℕ) (p : List ℕ) → length p ≡ place_room → FlagsStored n p (set p 3 n)
-flags-stored n p l = eight (λ q. FlagsStored n q (set q 3 n)) (λ a b c d e f g h. record { stands = refl; waits = refl; room = refl }) p l
-
-pub flags-as : (p : List ℕ) → length p ≡ place_room → FlagsStored (get_or p 3 0) p p
-flags-as p l = record { stands = refl; waits = refl; room = l }
+-- the reader stands as at p, with n flags
+abbrev pub flags_stored : ℕ → Place → Place
+flags_stored n p = record { token = p.token; flags = n; signs = p.signs; count = p.count; waiting = p.waiting; refusal = p.refusal }
 
 -- the operand of one token, from where its token was passed
-pub atom-says : {text p : List ℕ} {codes codes' : List ℕ} {n : ℕ} {g : Guard} {l : ℕ} → OneToken text (place p) codes codes' n g l →
-    {p₁ p' : List ℕ} {r : Answer} → FlagsStored n p p₁ → PastTokenSays text p₁ l r p' → AtomSays text p codes r p' codes'
-atom-says {text} {p} {codes} {codes'} {n} {g} {l} o {p₁} {p'} {r} f a = record {
+pub atom-says : {text : List ℕ} {p : Place} {codes codes' : List ℕ} {n : ℕ} {g : Guard} {l : ℕ} → OneToken text (place p) codes codes' n g l →
+    {p' : Place} {r : Result ℕ Refused} → PastTokenSays text (flags_stored n p) l r p' → AtomSays text p codes r p' codes'
+atom-says {text} {p} {codes} {codes'} {n} {g} {l} o {p'} {r} a = record {
   found = λ m e.
       let q = a.found m e in
-      subst (λ (k : ℕ). Atom text (place p) codes k (place p') codes') (sym q.1)
-      (atom-found o (place p')
-      (subst (λ (x : At). Advanced text x (get_or p 4 0) (place p')) f.stands
-      (subst (λ (k : ℕ). Advanced text (place p₁) k (place p')) (ap (λ (x : At). x.signs) f.stands) q.0)));
-  refused = λ e d.
-      o.walked d
-      ∙ ap (λ (x : At). walk after d (flags_in text codes' n) (get_or p 4 0) (past (ahead text x.token))) (sym f.stands)
-      ∙ a.refused e after d (flags_in text codes' n) (get_or p 4 0);
-  kept = record { waits = a.kept.waits ∙ f.waits; room = a.kept.room };
+      subst (λ (k : ℕ). Atom text (place p) codes k (place p') codes') (sym q.1) (atom-found o (place p') q.0);
+  refused = λ x e d. o.walked d ∙ a.refused x e after d (flags_in text codes' n) p.signs;
+  waits = a.waits;
 }
-
--- the token after the one of a literal
-pub past-token-found : {text p p' : List ℕ} {l : ℕ} {r : Step} → AdvancedSays text p r p' → r ≡ step.Taken → PastTokenSays text p l
-    (answer.Found l) p'
-past-token-found {text} {p} {p'} {l} {r} a e = record {
-  found = λ m h. (a.taken e, same-found m h);
-  refused = λ h. never-answer l (answer.Found l) refl h;
-  kept = a.kept;
-}
-  where
-    same-found : (m : ℕ) → answer.Found l ≡ answer.Found m → m ≡ l
-    same-found m h = cc
-
-pub past-token-refused : {text p p' : List ℕ} {l : ℕ} {r : Step} → AdvancedSays text p r p' → r ≡ step.Refused → PastTokenSays text p l
-    answer.Refused p'
-past-token-refused a e = record { found = λ m h. never-answer m answer.Refused h refl; refused = λ h. a.refused e; kept = a.kept }
 
 -- the token ahead, told by its kind
 ahead-truth : (k : Kind) (text : List ℕ) (p e : ℕ) (b : Bool) → k ≡ kind.Truth b → ahead_as k text p e ≡ token-at p (hash b)
@@ -268,13 +232,13 @@ module _ (text : List ℕ) (at : At) (codes : List ℕ) (st : Standing text code
     too_many h i d = code-walked d ∙ rw (longer h, lt-leb (at.flags + 1) flag_ceiling (omega arith))
 
 -- a 25th flag
-pub too-many-says : {text p codes p' : List ℕ} {r : Answer} →
-    ((d : ℕ) → walk operand d (flags_in text codes (get_or p 3 0)) (get_or p 4 0) (ahead text (token_in p)) ≡ refused 7 (get_or p 1 0)) →
-    RefusedSays 7 p r p' → AtomSays text p codes r p' codes
-too-many-says {text} {p} {codes} {p'} {r} h c = record {
-  found = λ l e. never-answer l r e c.refused;
-  refused = λ e d. h d ∙ ap (λ (n : ℕ). refused n (get_or p 1 0)) (sym c.number) ∙ ap (refused (get_or p' 6 0)) (sym c.start);
-  kept = c.kept;
+pub too-many-says : {text : List ℕ} {p : Place} {codes : List ℕ} {p' : Place} {y : Refused} →
+    ((d : ℕ) → walk operand d (flags_in text codes p.flags) p.signs (ahead text p.token) ≡ refused 7 p.token.start) →
+    RefusedAt 7 p.token.start p p' → AtomSays text p codes (Err y) p' codes
+too-many-says h c = record {
+  found = λ l e. never_both e refl;
+  refused = λ _ _ d. h d ∙ ap (λ (f : Refusal). refused f.number f.place) (sym c.refusal);
+  waits = c.behind.waits;
 }
 
 -- at a closing bracket the guard in brackets is an operand
@@ -321,27 +285,27 @@ closing-on (kind.Sign c) e = refl
 closing-on kind.Opening e = refl
 closing-on kind.Closing e = refl
 
-module _ {text p p' : List ℕ} {r : Step} where
-  pub closed-says : closes (kind_of (get_or p 0 0)) ≡ true → AdvancedSays text p r p' → ClosedSays text p r p'
+module _ {text : List ℕ} {p p' : Place} where
+  pub closed-says : {r : Result Unit Refused} → closes p.token.kind ≡ true → AdvancedSays text p r p' → ClosedSays text p r p'
   closed-says k a = record {
     taken = λ e.
         let v = a.taken e in
         record {
           advanced = v;
-          walked = λ d u m. closing-walked (kind_of (get_or p 0 0)) text (get_or p 1 0) (get_or p 2 0) d u m k ∙ ap (walk after d u m) v.tokens;
-          parsed = λ g u. closing-parsed (kind_of (get_or p 0 0)) text (get_or p 1 0) (get_or p 2 0) g u k ∙ ap (found g u) v.tokens;
+          walked = λ d u m. closing-walked p.token.kind text p.token.start p.token.next d u m k ∙ ap (walk after d u m) v.tokens;
+          parsed = λ g u. closing-parsed p.token.kind text p.token.start p.token.next g u k ∙ ap (found g u) v.tokens;
         };
-    refused = λ e d u m. closing-walked (kind_of (get_or p 0 0)) text (get_or p 1 0) (get_or p 2 0) d u m k ∙ a.refused e after d u m;
-    kept = a.kept;
+    refused = λ x e d u m. closing-walked p.token.kind text p.token.start p.token.next d u m k ∙ a.refused x e after d u m;
+    waits = a.waits;
   }
 
-  pub closed-refused : joins (kind_of (get_or p 0 0)) ≡ false → closes (kind_of (get_or p 0 0)) ≡ false → RefusedAt 5 (get_or p 1 0) p r p' → ClosedSays
-      text p r p'
+  pub closed-refused : {x : Refused} → joins p.token.kind ≡ false → closes p.token.kind ≡ false → RefusedAt 5 p.token.start p p' →
+      ClosedSays text p (Err x) p'
   closed-refused j k c = record {
-    taken = λ e. never_both r e c.answer;
-    refused = λ e d u m.
-        no-closing (kind_of (get_or p 0 0)) text (get_or p 1 0) (get_or p 2 0) d u m j k ∙ ap (λ (f : Refusal). refused f.number f.place) (sym c.refusal);
-    kept = record { waits = c.behind.waits; room = c.behind.room };
+    taken = λ e. never_both e refl;
+    refused = λ _ _ d u m.
+        no-closing p.token.kind text p.token.start p.token.next d u m j k ∙ ap (λ (f : Refusal). refused f.number f.place) (sym c.refusal);
+    waits = c.behind.waits;
   }
 
 -- no operand starts with the end, a sign or a closing bracket
@@ -364,12 +328,3 @@ no_operand kind.Bang text p e d u m h = absurd (true≢false h)
 no_operand (kind.Sign c) text p e d u m h = refl
 no_operand kind.Opening text p e d u m h = absurd (true≢false h)
 no_operand kind.Closing text p e d u m h = refl
-
--- refused at the token ahead
-pub refused_says : {n : ℕ} {p p' : List ℕ} {s : Step} → RefusedAt n (get_or p 1 0) p s p' → RefusedSays n p answer.Refused p'
-refused_says c = record {
-  refused = refl;
-  number = ap (λ (f : Refusal). f.number) c.refusal;
-  start = ap (λ (f : Refusal). f.place) c.refusal;
-  kept = record { waits = c.behind.waits; room = c.behind.room };
-}

@@ -1,19 +1,16 @@
 // Reads a guard into lent tables: the codes of its flags, and its triplets as numbers.
 ghost use Rattle.std.specs.Prelude.{◌≡◌, ◌*◌, ◌≤◌, length};
 ghost use Rattle.notation.specs.Ceilings.{flag_ceiling, connective_ceiling};
-ghost use Rattle.notation.specs.clauses.Cut.{ends};
 ghost use Rattle.notation.specs.clauses.Codes.{codes_room, flags_in, InText};
-ghost use Rattle.notation.specs.clauses.Place.{refusal_in};
 ghost use Rattle.notation.specs.Reading.{reading, reading_from};
 ghost use Rattle.levels.specs.clauses.Levels.{part};
 ghost use Rattle.reading.specs.clauses.Parsing.{ParseSays, ended_as};
 
 use levels::same;
 use notation::ceilings::{CODES_ROOM, CONNECTIVES, TEXT, TRIPLETS_ROOM};
-use notation::place::{COUNT, KIND, Kind, NEXT, NUMBER, PLACE, SEEN, START, Step, kind_of};
+use notation::place::{Kind, Place};
 use notation::refusal::Refusal;
 use notation::tokens::token_at;
-use operands::Answer;
 
 // The numbers of a guard's flags and triplets, and its root literal.
 #[derive(Clone, Copy)]
@@ -29,46 +26,21 @@ pub enum Parsed {
     Refused(Refusal),
 }
 
-// The refusal that a place holds.
-fn unread(at: &[usize; PLACE]) -> Parsed
-    ensures { result ≡ Parsed.Refused (refusal_in at.now) }
-{
-    Parsed::Refused(Refusal {
-        number: at[NUMBER],
-        place: at[START],
-    })
-}
-
-fn is_end(kind: Kind) -> bool
-    ensures { result ≡ ends kind }
-{
-    match kind {
-        Kind::End => true,
-        Kind::Code => false,
-        Kind::Truth(_) => false,
-        Kind::Bang => false,
-        Kind::Sign(_) => false,
-        Kind::Opening => false,
-        Kind::Closing => false,
-    }
-}
-
 // A guard, if the text ends after it.
-fn ended(at: &[usize; PLACE], root: u16) -> Parsed
+fn ended(at: &Place, root: u16) -> Parsed
     ensures { result ≡ ended_as (part root at.now) }
 {
-    let kind = kind_of(at[KIND]);
-    if is_end(kind) {
-        return Parsed::Guard(Guard {
-            flags: at[SEEN],
-            count: at[COUNT],
+    match at.token.kind {
+        Kind::End => Parsed::Guard(Guard {
+            flags: at.flags,
+            count: at.count,
             root,
-        });
+        }),
+        _ => Parsed::Refused(Refusal {
+            number: 5,
+            place: at.token.start,
+        }),
     }
-    Parsed::Refused(Refusal {
-        number: 5,
-        place: at[START],
-    })
 }
 
 // The guard that stands from a place to the end of a text, or its refusal: the first `flags` codes of the table have been seen before. A
@@ -93,17 +65,15 @@ pub fn parse_from(
             place: from + TEXT,
         });
     }
-    let mut at = [0usize; PLACE];
-    at[NEXT] = from;
-    at[SEEN] = flags;
+    let mut at = Place::before(from, flags);
     let first = token_at(text, &mut at);
-    let Step::Taken = first else {
-        return unread(&at);
+    let Ok(()) = first else {
+        return Parsed::Refused(at.refusal);
     };
     let mut wait = [0u16; CONNECTIVES];
     let whole = same(text, &mut at, 0, codes, out, &mut wait);
-    let Answer::Found(root) = whole else {
-        return unread(&at);
+    let Ok(root) = whole else {
+        return Parsed::Refused(at.refusal);
     };
     ended(&at, root)
 }

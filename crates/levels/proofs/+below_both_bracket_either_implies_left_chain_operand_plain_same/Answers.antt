@@ -5,21 +5,18 @@ use mathlib.Core.Path.{sym, ◌∙◌}
 use Rattle.levels.proofs.Turning.{says-refused, left_alone, begins, further}
 use Rattle.notation.specs.Tokens as tokens
 use Rattle.levels.proofs.Nested.{too-deep, faulty-inside, inside-refused-says, asks-closed, unclosed, closed-says}
-use lib.ListN.{get_or}
 use mathlib.Core.Path.{◌≡◌, refl, sym, ◌∙◌}
-use lib.ListN.{get_or}
 use Rattle.operands.specs.clauses.Steps.{place}
 use Rattle.levels.specs.clauses.Levels.{operands_at, below_of}
 use Rattle.levels.proofs.Nesting.{right_is}
 use Rattle.levels.proofs.Turning.{says-found, says-refused, passed, asks-sign, sign-refused, nearer, operand-refused, waits-on}
-use Rattle.levels.proofs.Nested.{rooms-as}
 use Rattle.levels.proofs.Waiting.{rising-opened, rising-refused, up_first, passed-aside, asks-next}
 use Rattle.levels.proofs.Waiting.{up_more, down-first, down-more, chain-ends, asks-last, all-joined}
 use mathlib.Core.Path.{refl, sym, ◌∙◌}
 use Rattle.levels.proofs.Turning.{says-found, says-refused, still-twice, carried, here, rooms-here, passed, asks-sign}
 use Rattle.levels.proofs.Turning.{sign-refused, chain-read, asks-operand, nearer, operand-refused, asks-joined, grows, on-more, waits-past}
 use Rattle.levels.proofs.Turning.{says-refused}
-use Rattle.levels.proofs.Nested.{rooms-as, banged-none, bang-refused, bang-more, behind-says}
+use Rattle.levels.proofs.Nested.{banged-none, bang-refused, bang-more, behind-says}
 use mathlib.Core.Path.{sym, ap, ◌∙◌}
 use Rattle.operands.proofs.Operands.{opens}
 use Rattle.levels.proofs.Nested.{atom-level, misplaced}
@@ -27,21 +24,21 @@ use Rattle.levels.proofs.+below_both_bracket_either_implies_left_chain_operand_p
 
 pub both-returns-then-not-sign_follows : goal.both-returns-then-not-sign_follows
 both-returns-then-not-sign_follows t c =
-    left_alone tokens.and c.operand-first.ensures c.in-Found.is (sym c.sign_follows.ensures ∙ c.if-not-sign_follows.true)
+    left_alone tokens.and c.operand-first.ensures c.in-Ok.is (sym c.sign_follows.ensures ∙ c.if-not-sign_follows.true)
 
 pub both-left_chain-requires : goal.both-left_chain-requires
 both-left_chain-requires t c =
-    let n = further tokens.and c.operand-first.ensures c.in-Found.is (sym c.sign_follows.ensures ∙ c.if-not-sign_follows.false) in
-    (omega (arith, n.0, n.1), begins tokens.and c.operand-first.ensures c.in-Found.is c.requires.waits c.requires.brackets)
+    let n = further tokens.and c.operand-first.ensures c.in-Ok.is (sym c.sign_follows.ensures ∙ c.if-not-sign_follows.false) in
+    (omega (arith, n.0, n.1), begins tokens.and c.operand-first.ensures c.in-Ok.is c.requires.waits c.requires.brackets)
 
 pub both-returns : goal.both-returns
 both-returns t c =
-    c.left_chain.ensures c.args.at.now c.args.codes.now c.args.out.now c.args.wait.now (c.operand-first.ensures.found _ c.in-Found.is)
-    (c.operand-first.ensures.still _ c.in-Found.is)
+    c.left_chain.ensures c.args.at.now c.args.codes.now c.args.out.now c.args.wait.now (c.operand-first.ensures.found _ c.in-Ok.is)
+    (c.operand-first.ensures.still _ c.in-Ok.is)
 
 pub bracket-returns-then-brackets-ge-BRACKETS : goal.bracket-returns-then-brackets-ge-BRACKETS
 bracket-returns-then-brackets-ge-BRACKETS t c =
-    too-deep c.requires.asks c.requires.at_value c.if-brackets-ge-BRACKETS.true c.refused.ensures
+    too-deep c.requires.asks c.requires.at_value c.if-brackets-ge-BRACKETS.true c.refuse_ahead.ensures
 
 pub bracket-returns-in_default : goal.bracket-returns-in_default
 bracket-returns-in_default t c =
@@ -49,109 +46,107 @@ bracket-returns-in_default t c =
 
 pub bracket-returns-in_default-inner : goal.bracket-returns-in_default-inner
 bracket-returns-in_default-inner t c =
-    inside-refused-says c.requires.asks c.requires.at_value c.if-brackets-ge-BRACKETS.false c.advanced-moved.ensures c.in-Taken.is
+    inside-refused-says c.requires.asks c.requires.at_value c.if-brackets-ge-BRACKETS.false c.advanced-moved.ensures c.in-Ok.is
     c.same-inner.ensures c.in_default-inner.is
 
 pub bracket-closed-shut-requires : goal.bracket-closed-shut-requires
 bracket-closed-shut-requires t c =
-    let all = asks-closed c.requires.asks c.requires.at_value c.if-brackets-ge-BRACKETS.false c.advanced-moved.ensures c.in-Taken.is
-    c.same-inner.ensures c.in-Found.is in
+    let all = asks-closed c.requires.asks c.requires.at_value c.if-brackets-ge-BRACKETS.false c.advanced-moved.ensures c.in-Ok.is
+    c.same-inner.ensures c.in-Ok-inner.is in
     record {
-      at_len = all.0;
-      token_fits = all.1.0;
-      at_value = all.1.1;
+      token_fits = all.0;
+      at_value = all.1;
     }
 
 pub bracket-returns-in_default-shut : goal.bracket-returns-in_default-shut
 bracket-returns-in_default-shut t c =
-    unclosed c.requires.asks c.requires.at_value c.if-brackets-ge-BRACKETS.false c.advanced-moved.ensures c.in-Taken.is c.same-inner.ensures
-    c.in-Found.is c.closed-shut.ensures
+    unclosed c.requires.asks c.requires.at_value c.if-brackets-ge-BRACKETS.false c.advanced-moved.ensures c.in-Ok.is c.same-inner.ensures
+    c.in-Ok-inner.is c.closed-shut.ensures
     c.in_default-shut.is
 
 pub bracket-returns : goal.bracket-returns
 bracket-returns t c =
-    closed-says c.requires.asks c.requires.at_value c.if-brackets-ge-BRACKETS.false c.advanced-moved.ensures c.in-Taken.is c.same-inner.ensures c.in-Found.is
-    c.closed-shut.ensures c.in-Taken-shut.is
+    closed-says c.requires.asks c.requires.at_value c.if-brackets-ge-BRACKETS.false c.advanced-moved.ensures c.in-Ok.is c.same-inner.ensures c.in-Ok-inner.is
+    c.closed-shut.ensures c.in-Ok-shut.is
 
 pub either-returns-then-not-sign_follows : goal.either-returns-then-not-sign_follows
 either-returns-then-not-sign_follows t c =
-    left_alone tokens.or c.both-first.ensures c.in-Found.is (sym c.sign_follows.ensures ∙ c.if-not-sign_follows.true)
+    left_alone tokens.or c.both-first.ensures c.in-Ok.is (sym c.sign_follows.ensures ∙ c.if-not-sign_follows.true)
 
 pub either-left_chain-requires : goal.either-left_chain-requires
 either-left_chain-requires t c =
-    let n = further tokens.or c.both-first.ensures c.in-Found.is (sym c.sign_follows.ensures ∙ c.if-not-sign_follows.false) in
-    (omega (arith, n.0, n.1), begins tokens.or c.both-first.ensures c.in-Found.is c.requires.waits c.requires.brackets)
+    let n = further tokens.or c.both-first.ensures c.in-Ok.is (sym c.sign_follows.ensures ∙ c.if-not-sign_follows.false) in
+    (omega (arith, n.0, n.1), begins tokens.or c.both-first.ensures c.in-Ok.is c.requires.waits c.requires.brackets)
 
 pub either-returns : goal.either-returns
 either-returns t c =
-    c.left_chain.ensures c.args.at.now c.args.codes.now c.args.out.now c.args.wait.now (c.both-first.ensures.found _ c.in-Found.is)
-    (c.both-first.ensures.still _ c.in-Found.is)
+    c.left_chain.ensures c.args.at.now c.args.codes.now c.args.out.now c.args.wait.now (c.both-first.ensures.found _ c.in-Ok.is)
+    (c.both-first.ensures.still _ c.in-Ok.is)
 
 pub implies-loop-at-init : goal.implies-loop-at-init
 implies-loop-at-init t c =
-    up_first (c.either-first.ensures.still _ c.in-Found.is).waits (waits-on c.requires.waits c.either-first.ensures c.in-Found.is)
+    up_first (c.either-first.ensures.still _ c.in-Ok.is).waits (waits-on c.requires.waits c.either-first.ensures c.in-Ok.is)
     c.either-first.ensures.rooms
 
 pub implies-past_sign-moved-requires : goal.implies-past_sign-moved-requires
 implies-past_sign-moved-requires t c =
-    let r = c.loop-at.invariant.up c.args.at.now c.args.codes.now c.args.out.now (c.either-first.ensures.found _ c.in-Found.is) in
+    let r = c.loop-at.invariant.up c.args.at.now c.args.codes.now c.args.out.now (c.either-first.ensures.found _ c.in-Ok.is) in
     let all = asks-sign (rising-opened r) (sym c.sign_follows.ensures ∙ c.loop-at-test.true) in
     record {
-      at_len = c.loop-at.invariant.rooms.numbers;
       token_fits = all.0;
       at_value = all.1;
     }
 
 pub implies-returns-in_default-moved : goal.implies-returns-in_default-moved
 implies-returns-in_default-moved t c =
-    let r = c.loop-at.invariant.up c.args.at.now c.args.codes.now c.args.out.now (c.either-first.ensures.found _ c.in-Found.is) in
+    let r = c.loop-at.invariant.up c.args.at.now c.args.codes.now c.args.out.now (c.either-first.ensures.found _ c.in-Ok.is) in
     says-refused refl (rising-refused r (sign-refused (rising-opened r) c.past_sign-moved.ensures c.in_default-moved.is))
-    (rooms-as c.loop-at.invariant.rooms c.past_sign-moved.ensures.kept.room)
+    c.loop-at.invariant.rooms
 
 pub implies-either-next-requires : goal.implies-either-next-requires
 implies-either-next-requires t c =
-    let r = c.loop-at.invariant.up c.args.at.now c.args.codes.now c.args.out.now (c.either-first.ensures.found _ c.in-Found.is) in
-    let q = (passed (sym c.sign_follows.ensures ∙ c.loop-at-test.true) c.past_sign-moved.ensures c.in-Taken.is) in
+    let r = c.loop-at.invariant.up c.args.at.now c.args.codes.now c.args.out.now (c.either-first.ensures.found _ c.in-Ok.is) in
+    let q = (passed (sym c.sign_follows.ensures ∙ c.loop-at-test.true) c.past_sign-moved.ensures c.in-Ok-moved.is) in
     let qa = passed-aside q c.set_aside.ensures in
     let n = nearer (rising-opened r) qa in (
-      omega (arith, (c.either-first.ensures.found _ c.in-Found.is).later, c.loop-at.invariant.later, n.1, n.2),
+      omega (arith, (c.either-first.ensures.found _ c.in-Ok.is).later, c.loop-at.invariant.later, n.1, n.2),
       asks-next c.loop-at.invariant q
-          c.past_sign-moved.ensures.kept.waits c.set_aside.ensures r c.requires.brackets,
+          c.past_sign-moved.ensures.waits c.set_aside.ensures r c.requires.brackets,
     )
 
 pub implies-returns-in_default-next : goal.implies-returns-in_default-next
 implies-returns-in_default-next t c =
-    let r = c.loop-at.invariant.up c.args.at.now c.args.codes.now c.args.out.now (c.either-first.ensures.found _ c.in-Found.is) in
-    let q = (passed (sym c.sign_follows.ensures ∙ c.loop-at-test.true) c.past_sign-moved.ensures c.in-Taken.is) in
+    let r = c.loop-at.invariant.up c.args.at.now c.args.codes.now c.args.out.now (c.either-first.ensures.found _ c.in-Ok.is) in
+    let q = (passed (sym c.sign_follows.ensures ∙ c.loop-at-test.true) c.past_sign-moved.ensures c.in-Ok-moved.is) in
     let qa = passed-aside q c.set_aside.ensures in
     says-refused c.in_default-next.is (rising-refused r (operand-refused (rising-opened r) qa c.either-next.ensures c.in_default-next.is))
     c.either-next.ensures.rooms
 
 pub implies-loop-at-smaller : goal.implies-loop-at-smaller
 implies-loop-at-smaller t c =
-    let r = c.loop-at.invariant.up c.args.at.now c.args.codes.now c.args.out.now (c.either-first.ensures.found _ c.in-Found.is) in
-    let q = (passed (sym c.sign_follows.ensures ∙ c.loop-at-test.true) c.past_sign-moved.ensures c.in-Taken.is) in
+    let r = c.loop-at.invariant.up c.args.at.now c.args.codes.now c.args.out.now (c.either-first.ensures.found _ c.in-Ok.is) in
+    let q = (passed (sym c.sign_follows.ensures ∙ c.loop-at-test.true) c.past_sign-moved.ensures c.in-Ok-moved.is) in
     let qa = passed-aside q c.set_aside.ensures in
     let n = nearer (rising-opened r) qa in
-    omega (arith, n.1, n.2, (c.either-next.ensures.found _ c.in-Found-next.is).later)
+    omega (arith, n.1, n.2, (c.either-next.ensures.found _ c.in-Ok-next.is).later)
 
 pub implies-loop-at-preserved : goal.implies-loop-at-preserved
 implies-loop-at-preserved t c =
-    let q = (passed (sym c.sign_follows.ensures ∙ c.loop-at-test.true) c.past_sign-moved.ensures c.in-Taken.is) in
-    up_more c.loop-at.invariant q c.past_sign-moved.ensures.kept.waits c.set_aside.ensures c.either-next.ensures c.in-Found-next.is
+    let q = (passed (sym c.sign_follows.ensures ∙ c.loop-at-test.true) c.past_sign-moved.ensures c.in-Ok-moved.is) in
+    up_more c.loop-at.invariant q c.past_sign-moved.ensures.waits c.set_aside.ensures c.either-next.ensures c.in-Ok-next.is
 
 pub implies-loop-at-2-init : goal.implies-loop-at-2-init
 implies-loop-at-2-init t c =
-    let r = c.loop-at.invariant.up c.args.at.now c.args.codes.now c.args.out.now (c.either-first.ensures.found _ c.in-Found.is) in
+    let r = c.loop-at.invariant.up c.args.at.now c.args.codes.now c.args.out.now (c.either-first.ensures.found _ c.in-Ok.is) in
     down-first c.loop-at.invariant r
 
 pub implies-join_last-last-requires : goal.implies-join_last-last-requires
 implies-join_last-last-requires t c =
-    let r = c.loop-at.invariant.up c.args.at.now c.args.codes.now c.args.out.now (c.either-first.ensures.found _ c.in-Found.is) in
+    let r = c.loop-at.invariant.up c.args.at.now c.args.codes.now c.args.out.now (c.either-first.ensures.found _ c.in-Ok.is) in
     let f = c.loop-at-2.invariant.down c.args.at.now c.args.codes.now c.args.out.now (chain-ends r (sym c.sign_follows.ensures ∙ c.loop-at-test.false)) in
     let a = asks-last f c.loop-at-2-test.true in
     record {
-      out_len = (c.loop-at-2.invariant.rooms.triplets, c.loop-at-2.invariant.rooms.numbers);
+      out_len = c.loop-at-2.invariant.rooms.triplets;
       nonzero = (omega (arith, c.loop-at-2-test.true), c.loop-at-2.invariant.most);
       at_bound = a.0;
       at_bound_2 = a.1;
@@ -163,10 +158,10 @@ implies-loop-at-2-preserved t c =
 
 pub implies-returns : goal.implies-returns
 implies-returns t c =
-    let r = c.loop-at.invariant.up c.args.at.now c.args.codes.now c.args.out.now (c.either-first.ensures.found _ c.in-Found.is) in
+    let r = c.loop-at.invariant.up c.args.at.now c.args.codes.now c.args.out.now (c.either-first.ensures.found _ c.in-Ok.is) in
     let f = c.loop-at-2.invariant.down c.args.at.now c.args.codes.now c.args.out.now (chain-ends r (sym c.sign_follows.ensures ∙ c.loop-at-test.false)) in
-    let s = c.either-first.ensures.still _ c.in-Found.is in
-    let e : get_or c.loop-at-2.at 7 0 ≡ get_or c.args.at.now 7 0 = omega (arith, c.loop-at-2-test.false, c.loop-at-2.invariant.least) in
+    let s = c.either-first.ensures.still _ c.in-Ok.is in
+    let e : c.loop-at-2.at.waiting ≡ c.args.at.now.waiting = omega (arith, c.loop-at-2-test.false, c.loop-at-2.invariant.least) in
     says-found refl (right_is tokens.implies (below_of tokens.implies (operands_at c.args.brackets)) c.args.brackets 3 c.args.text.now
     (place c.args.at.now) c.args.codes.now c.args.out.now _ _ _ (all-joined f e))
     (record { waits = e; others = λ i h. c.loop-at.invariant.others i h ∙ s.others i h }) c.loop-at-2.invariant.rooms
@@ -175,7 +170,6 @@ pub left_chain-past_sign-moved-requires : goal.left_chain-past_sign-moved-requir
 left_chain-past_sign-moved-requires t c =
     let all = asks-sign (here c.loop-sign.invariant c.requires) (sym c.sign_follows.ensures ∙ c.loop-sign-test.true) in
     record {
-      at_len = (rooms-here c.loop-sign.invariant c.requires).numbers;
       token_fits = all.0;
       at_value = all.1;
     }
@@ -184,21 +178,21 @@ pub left_chain-returns-in_default : goal.left_chain-returns-in_default
 left_chain-returns-in_default t c =
     λ p₀ codes₀ out₀ wait₀ f s.
     says-refused refl (sign-refused (carried c.loop-sign.invariant p₀ codes₀ out₀ f) c.past_sign-moved.ensures c.in_default.is)
-    (rooms-as (rooms-here c.loop-sign.invariant c.requires) c.past_sign-moved.ensures.kept.room)
+    (rooms-here c.loop-sign.invariant c.requires)
 
 pub left_chain-below-next-requires : goal.left_chain-below-next-requires
 left_chain-below-next-requires t c =
     let so = (here c.loop-sign.invariant c.requires) in
-    let q = (passed (sym c.sign_follows.ensures ∙ c.loop-sign-test.true) c.past_sign-moved.ensures c.in-Taken.is) in
+    let q = (passed (sym c.sign_follows.ensures ∙ c.loop-sign-test.true) c.past_sign-moved.ensures c.in-Ok.is) in
     let n = nearer so q in (
       omega (arith, c.loop-sign.invariant.later, n.1, n.2),
-      asks-operand so q (rooms-as (rooms-here c.loop-sign.invariant c.requires) c.past_sign-moved.ensures.kept.room)
-          (waits-past (c.loop-sign.invariant.waits c.requires.waits) c.past_sign-moved.ensures.kept.waits q) c.requires.brackets,
+      asks-operand so q (rooms-here c.loop-sign.invariant c.requires)
+          (waits-past (c.loop-sign.invariant.waits c.requires.waits) c.past_sign-moved.ensures.waits q) c.requires.brackets,
     )
 
 pub left_chain-returns-in_default-next : goal.left_chain-returns-in_default-next
 left_chain-returns-in_default-next t c =
-    let q = (passed (sym c.sign_follows.ensures ∙ c.loop-sign-test.true) c.past_sign-moved.ensures c.in-Taken.is) in
+    let q = (passed (sym c.sign_follows.ensures ∙ c.loop-sign-test.true) c.past_sign-moved.ensures c.in-Ok.is) in
     λ p₀ codes₀ out₀ wait₀ f s. says-refused c.in_default-next.is
     (operand-refused (carried c.loop-sign.invariant p₀ codes₀ out₀ f) q c.below-next.ensures
     c.in_default-next.is) c.below-next.ensures.rooms
@@ -206,23 +200,23 @@ left_chain-returns-in_default-next t c =
 pub left_chain-joined-left-requires : goal.left_chain-joined-left-requires
 left_chain-joined-left-requires t c =
     let a = asks-joined (here c.loop-sign.invariant c.requires) (passed (sym c.sign_follows.ensures ∙ c.loop-sign-test.true) c.past_sign-moved.ensures
-    c.in-Taken.is) c.below-next.ensures c.in-Found.is in
+    c.in-Ok.is) c.below-next.ensures c.in-Ok-next.is in
     record {
-      out_len = (c.below-next.ensures.rooms.triplets, c.below-next.ensures.rooms.numbers);
+      out_len = c.below-next.ensures.rooms.triplets;
       at_bound = a.0;
       left_le_literal_ceiling = a.1;
     }
 
 pub left_chain-loop-sign-smaller : goal.left_chain-loop-sign-smaller
 left_chain-loop-sign-smaller t c =
-    let n = grows (here c.loop-sign.invariant c.requires) (passed (sym c.sign_follows.ensures ∙ c.loop-sign-test.true) c.past_sign-moved.ensures c.in-Taken.is)
-    c.below-next.ensures c.in-Found.is c.joined-left.ensures in
+    let n = grows (here c.loop-sign.invariant c.requires) (passed (sym c.sign_follows.ensures ∙ c.loop-sign-test.true) c.past_sign-moved.ensures c.in-Ok.is)
+    c.below-next.ensures c.in-Ok-next.is c.joined-left.ensures in
     omega (arith, n.0, n.1)
 
 pub left_chain-loop-sign-preserved : goal.left_chain-loop-sign-preserved
 left_chain-loop-sign-preserved t c =
-    on-more c.loop-sign.invariant (passed (sym c.sign_follows.ensures ∙ c.loop-sign-test.true) c.past_sign-moved.ensures c.in-Taken.is)
-    c.past_sign-moved.ensures.kept.waits c.below-next.ensures c.in-Found.is c.joined-left.ensures
+    on-more c.loop-sign.invariant (passed (sym c.sign_follows.ensures ∙ c.loop-sign-test.true) c.past_sign-moved.ensures c.in-Ok.is)
+    c.past_sign-moved.ensures.waits c.below-next.ensures c.in-Ok-next.is c.joined-left.ensures
 
 pub left_chain-returns : goal.left_chain-returns
 left_chain-returns t c =
@@ -237,19 +231,19 @@ operand-loop-bang-init t c =
 pub operand-returns-in_default : goal.operand-returns-in_default
 operand-returns-in_default t c =
     says-refused refl (bang-refused c.loop-bang.invariant c.loop-bang-test.true c.advanced-moved.ensures c.in_default.is _ _)
-    (rooms-as c.requires.rooms c.advanced-moved.ensures.kept.room)
+    c.requires.rooms
 
 pub operand-loop-bang-preserved : goal.operand-loop-bang-preserved
 operand-loop-bang-preserved t c =
-    bang-more c.loop-bang.invariant c.loop-bang-test.true c.advanced-moved.ensures c.in-Taken.is c.bang_follows-bang-in-loop-bang.ensures
+    bang-more c.loop-bang.invariant c.loop-bang-test.true c.advanced-moved.ensures c.in-Ok.is c.bang_follows-bang-in-loop-bang.ensures
 
 pub operand-flipped-requires : goal.operand-flipped-requires
 operand-flipped-requires t c =
-    ((c.plain-plain.ensures.found _ c.in-Found.is).writes.small, c.loop-bang.invariant.passed.parity)
+    ((c.plain-plain.ensures.found _ c.in-Ok-plain.is).writes.small, c.loop-bang.invariant.passed.parity)
 
 pub operand-returns : goal.operand-returns
 operand-returns t c =
-    behind-says c.loop-bang.invariant c.plain-plain.ensures c.in-Found.is _ c.flipped.ensures
+    behind-says c.loop-bang.invariant c.plain-plain.ensures c.in-Ok-plain.is _ c.flipped.ensures
 
 pub plain-returns-in-Code : goal.plain-returns-in-Code
 plain-returns-in-Code t c =
@@ -261,26 +255,26 @@ plain-returns-in-Truth t c =
 
 pub plain-returns-in-End : goal.plain-returns-in-End
 plain-returns-in-End t c =
-    misplaced c.requires.asks (ap opens (sym c.kind_of-kind.ensures ∙ c.in-End.is)) c.refused.ensures
+    misplaced c.requires.asks (ap opens c.in-End.is) c.refuse_ahead.ensures
 
 pub plain-returns-in-Sign : goal.plain-returns-in-Sign
 plain-returns-in-Sign t c =
-    misplaced c.requires.asks (ap opens (sym c.kind_of-kind.ensures ∙ c.in-Sign.is)) c.refused-in-Sign.ensures
+    misplaced c.requires.asks (ap opens c.in-Sign.is) c.refuse_ahead-in-Sign.ensures
 
 pub plain-returns-in-Closing : goal.plain-returns-in-Closing
 plain-returns-in-Closing t c =
-    misplaced c.requires.asks (ap opens (sym c.kind_of-kind.ensures ∙ c.in-Closing.is)) c.refused-in-Closing.ensures
+    misplaced c.requires.asks (ap opens c.in-Closing.is) c.refuse_ahead-in-Closing.ensures
 
 pub same-returns-then-not-sign_follows : goal.same-returns-then-not-sign_follows
 same-returns-then-not-sign_follows t c =
-    left_alone tokens.same c.implies-first.ensures c.in-Found.is (sym c.sign_follows.ensures ∙ c.if-not-sign_follows.true)
+    left_alone tokens.same c.implies-first.ensures c.in-Ok.is (sym c.sign_follows.ensures ∙ c.if-not-sign_follows.true)
 
 pub same-left_chain-requires : goal.same-left_chain-requires
 same-left_chain-requires t c =
-    let n = further tokens.same c.implies-first.ensures c.in-Found.is (sym c.sign_follows.ensures ∙ c.if-not-sign_follows.false) in
-    (omega (arith, n.0, n.1), begins tokens.same c.implies-first.ensures c.in-Found.is c.requires.waits c.requires.brackets)
+    let n = further tokens.same c.implies-first.ensures c.in-Ok.is (sym c.sign_follows.ensures ∙ c.if-not-sign_follows.false) in
+    (omega (arith, n.0, n.1), begins tokens.same c.implies-first.ensures c.in-Ok.is c.requires.waits c.requires.brackets)
 
 pub same-returns : goal.same-returns
 same-returns t c =
-    c.left_chain.ensures c.args.at.now c.args.codes.now c.args.out.now c.args.wait.now (c.implies-first.ensures.found _ c.in-Found.is)
-    (c.implies-first.ensures.still _ c.in-Found.is)
+    c.left_chain.ensures c.args.at.now c.args.codes.now c.args.out.now c.args.wait.now (c.implies-first.ensures.found _ c.in-Ok.is)
+    (c.implies-first.ensures.still _ c.in-Ok.is)

@@ -1,12 +1,15 @@
 -- `notation::tokens::digit_class` meets its contract: digits make codes, and `>` and `=` are signs.
 use native.Mathlib.Omega.{arith}
 use borrow.Author.Tests.{le-leb, lt-leb, eq-eqb, ne_eqb}
+use Rattle.notation.specs.declared.place.Connective.TheVariants as connective
+use Rattle.notation.specs.declared.place.Kind.TheVariants as kind
+use Rattle.notation.specs.declared.tokens.Class.TheVariants as class
 use Rattle.notation.proofs.Classing.{class-is}
 use Rattle.notation.proofs.tokens.digit_class.Goals as goal
 
 pub returns-then-b-le57 : goal.returns-then-b-le57
 returns-then-b-le57 c =
-    class-is c.args.b 2 c.ranges.b.fits (rw (
+    class-is c.args.b class.Code c.ranges.b.fits (rw (
       lt-leb 97 c.args.b (omega arith),
       lt-leb 65 c.args.b (omega arith),
       le-leb 48 c.args.b
@@ -16,7 +19,7 @@ returns-then-b-le57 c =
 
 pub returns-then-b-eq62 : goal.returns-then-b-eq62
 returns-then-b-eq62 c =
-    class-is c.args.b 7 c.ranges.b.fits (rw (
+    class-is c.args.b (class.Mark (kind.Sign connective.Implies)) c.ranges.b.fits (rw (
       lt-leb 97 c.args.b (omega arith),
       lt-leb 65 c.args.b (omega arith),
       le-leb 48 c.args.b
@@ -27,7 +30,7 @@ returns-then-b-eq62 c =
 
 pub returns-then-b-eq61 : goal.returns-then-b-eq61
 returns-then-b-eq61 c =
-    class-is c.args.b 8 c.ranges.b.fits (rw (
+    class-is c.args.b (class.Mark (kind.Sign connective.Same)) c.ranges.b.fits (rw (
       lt-leb 97 c.args.b (omega arith),
       lt-leb 65 c.args.b (omega arith),
       le-leb 48 c.args.b
@@ -39,7 +42,7 @@ returns-then-b-eq61 c =
 
 pub returns : goal.returns
 returns c =
-    class-is c.args.b 0 c.ranges.b.fits (rw (
+    class-is c.args.b class.Stray c.ranges.b.fits (rw (
       lt-leb 97 c.args.b (omega arith),
       lt-leb 65 c.args.b (omega arith),
       le-leb 48 c.args.b

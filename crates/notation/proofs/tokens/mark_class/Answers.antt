@@ -1,12 +1,15 @@
 -- `notation::tokens::mark_class` meets its contract: each mark has its class, and other bytes have none.
 use native.Mathlib.Omega.{arith}
 use borrow.Author.Tests.{lt-leb, eq-eqb, ne_eqb}
+use Rattle.notation.specs.declared.place.Connective.TheVariants as connective
+use Rattle.notation.specs.declared.place.Kind.TheVariants as kind
+use Rattle.notation.specs.declared.tokens.Class.TheVariants as class
 use Rattle.notation.proofs.Classing.{class-is}
 use Rattle.notation.proofs.tokens.mark_class.Goals as goal
 
 pub returns-then-b-eq33 : goal.returns-then-b-eq33
 returns-then-b-eq33 c =
-    class-is c.args.b 4 c.ranges.b.fits (rw (
+    class-is c.args.b (class.Mark kind.Bang) c.ranges.b.fits (rw (
       lt-leb 97 c.args.b (omega arith),
       lt-leb 65 c.args.b (omega arith),
       lt-leb 48 c.args.b
@@ -16,7 +19,7 @@ returns-then-b-eq33 c =
 
 pub returns-then-b-eq38 : goal.returns-then-b-eq38
 returns-then-b-eq38 c =
-    class-is c.args.b 5 c.ranges.b.fits (rw (
+    class-is c.args.b (class.Mark (kind.Sign connective.And)) c.ranges.b.fits (rw (
       lt-leb 97 c.args.b (omega arith),
       lt-leb 65 c.args.b (omega arith),
       lt-leb 48 c.args.b
@@ -27,7 +30,7 @@ returns-then-b-eq38 c =
 
 pub returns-then-b-eq40 : goal.returns-then-b-eq40
 returns-then-b-eq40 c =
-    class-is c.args.b 9 c.ranges.b.fits (rw (
+    class-is c.args.b (class.Mark kind.Opening) c.ranges.b.fits (rw (
       lt-leb 97 c.args.b (omega arith),
       lt-leb 65 c.args.b (omega arith),
       lt-leb 48 c.args.b
@@ -39,7 +42,7 @@ returns-then-b-eq40 c =
 
 pub returns-then-b-eq41 : goal.returns-then-b-eq41
 returns-then-b-eq41 c =
-    class-is c.args.b 10 c.ranges.b.fits (rw (
+    class-is c.args.b (class.Mark kind.Closing) c.ranges.b.fits (rw (
       lt-leb 97 c.args.b (omega arith),
       lt-leb 65 c.args.b (omega arith),
       lt-leb 48 c.args.b
@@ -53,7 +56,7 @@ returns-then-b-eq41 c =
 
 pub returns-then-b-eq46 : goal.returns-then-b-eq46
 returns-then-b-eq46 c =
-    class-is c.args.b 2 c.ranges.b.fits (rw (
+    class-is c.args.b class.Code c.ranges.b.fits (rw (
       lt-leb 97 c.args.b (omega arith),
       lt-leb 65 c.args.b (omega arith),
       lt-leb 48 c.args.b
@@ -68,7 +71,7 @@ returns-then-b-eq46 c =
 
 pub returns-then-b-eq35 : goal.returns-then-b-eq35
 returns-then-b-eq35 c =
-    class-is c.args.b 3 c.ranges.b.fits (rw (
+    class-is c.args.b class.Hash c.ranges.b.fits (rw (
       lt-leb 97 c.args.b (omega arith),
       lt-leb 65 c.args.b (omega arith),
       lt-leb 48 c.args.b
@@ -84,7 +87,7 @@ returns-then-b-eq35 c =
 
 pub returns-then-b-eq32 : goal.returns-then-b-eq32
 returns-then-b-eq32 c =
-    class-is c.args.b 1 c.ranges.b.fits (rw (
+    class-is c.args.b class.Space c.ranges.b.fits (rw (
       lt-leb 97 c.args.b (omega arith),
       lt-leb 65 c.args.b (omega arith),
       lt-leb 48 c.args.b
@@ -101,7 +104,7 @@ returns-then-b-eq32 c =
 
 pub returns : goal.returns
 returns c =
-    class-is c.args.b 0 c.ranges.b.fits (rw (
+    class-is c.args.b class.Stray c.ranges.b.fits (rw (
       lt-leb 97 c.args.b (omega arith),
       lt-leb 65 c.args.b (omega arith),
       lt-leb 48 c.args.b
