@@ -5,7 +5,8 @@ ghost use Rattle.std.specs.Prelude.{◌≡◌};
 ghost use Rattle.notation.specs.Reading.{reading};
 ghost use Rattle.evaluate.specs.Evaluated.{evaluated};
 
-use notation::ceilings::{CODES_ROOM, TRIPLETS_ROOM};
+use notation::ceilings::{FLAGS, TRIPLETS_ROOM};
+use notation::codes::Code;
 use notation::refusal::Refusal;
 use reading::parse::{Parsed, parse};
 use truth::states::is_state;
@@ -22,7 +23,7 @@ pub enum Evaluation {
 pub fn evaluate(text: &[u8], state: u64) -> Evaluation
     ensures { result ≡ evaluated (reading text.now) state }
 {
-    let mut codes = [0usize; CODES_ROOM];
+    let mut codes = [Code::NONE; FLAGS];
     let mut triplets = [0u16; TRIPLETS_ROOM];
     let parsed = parse(text, &mut codes, &mut triplets);
     let guard = match parsed {

@@ -14,6 +14,7 @@ use Rattle.notation.specs.Triplets.{Triplet, numbers}
 use Rattle.notation.specs.clauses.Writing.{signed}
 use Rattle.notation.specs.clauses.Cut.{ahead, ends}
 use Rattle.notation.specs.clauses.Codes.{flags_in}
+use Rattle.notation.specs.declared.codes.Code.{Code}
 use Rattle.notation.specs.clauses.Place.{RefusedAt}
 use Rattle.notation.specs.declared.refusal.Refusal.{Refusal}
 use Rattle.notation.specs.declared.refusal.Refused.{Refused}
@@ -51,8 +52,8 @@ use Rattle.levels.proofs.Nesting.{
 use Rattle.levels.proofs.Turning.{says-found, says-refused, still-same, still-twice}
 
 -- an operand of one token
-module _ {text : List ℕ} {p : Place} {d : ℕ} {codes out wait : List ℕ} (a : Asks text p d codes out wait) where
-  atom-part : {l : ℕ} (p' : Place) {codes' : List ℕ} → Atom text (place p) codes l (place p') codes' →
+module _ {text : List ℕ} {p : Place} {d : ℕ} {codes : List Code} {out wait : List ℕ} (a : Asks text p d codes out wait) where
+  atom-part : {l : ℕ} (p' : Place) {codes' : List Code} → Atom text (place p) codes l (place p') codes' →
       FoundPart (plain (operands_at d)) d 0 text (place p) codes out (part l p') codes' out
   unfolding numbers
   atom-part {l} p' {codes'} o = record {
@@ -75,7 +76,7 @@ module _ {text : List ℕ} {p : Place} {d : ℕ} {codes out wait : List ℕ} (a 
     later = o.later;
   }
 
-  pub atom-level : {r : Result ℕ Refused} {p' : Place} {codes' : List ℕ} → AtomSays text p codes r p' codes' → Says
+  pub atom-level : {r : Result ℕ Refused} {p' : Place} {codes' : List Code} → AtomSays text p codes r p' codes' → Says
       (plain (operands_at d)) d 0 text p codes out wait r p' codes' out wait
   atom-level {r} {p'} {codes'} h = record {
     found = λ l e. atom-part p' (h.found l e);
@@ -106,7 +107,7 @@ module _ {text : List ℕ} {p₀ p : Place} {odd : ℕ} {bang : Bool} (b : Bange
     asks-bang = (b.passed.token, bang-on p.token.kind is-bang)
 
     module _ {p₁ : Place} {r : Result Unit Refused} (h : AdvancedSays text p r p₁) where
-      pub bang-refused : {x : Refused} → r ≡ Err x → (d : ℕ) (codes : List ℕ) →
+      pub bang-refused : {x : Refused} → r ≡ Err x → (d : ℕ) (codes : List Code) →
           walk operand d (flags_in text codes p₀.flags) p₀.signs (ahead text p₀.token) ≡ refused p₁.refusal.number p₁.refusal.place
       bang-refused e d codes = bangs-refused text (place p₀) (place p) odd b.passed is-bang p₁.refusal (h.refused _ e) d _ _
 
@@ -120,7 +121,7 @@ module _ {text : List ℕ} {p₀ p : Place} {odd : ℕ} {bang : Bool} (b : Bange
         waits = h.waits ∙ b.waits;
       }
 
-  module _ {d : ℕ} {codes out wait : List ℕ} (a : Asks text p₀ d codes out wait) where
+  module _ {d : ℕ} {codes : List Code} {out wait : List ℕ} (a : Asks text p₀ d codes out wait) where
     pub asks-behind : Asks text p d codes out wait
     asks-behind = record {
       rooms = a.rooms;
@@ -129,7 +130,7 @@ module _ {text : List ℕ} {p₀ p : Place} {odd : ℕ} {bang : Bool} (b : Bange
       brackets = a.brackets;
     }
 
-  module _ {d : ℕ} {codes out wait : List ℕ} {r : Result ℕ Refused} {p' : Place} {codes' out' wait' : List ℕ}
+  module _ {d : ℕ} {codes : List Code} {out wait : List ℕ} {r : Result ℕ Refused} {p' : Place} {codes' : List Code} {out' wait' : List ℕ}
       (h : Says (plain (operands_at d)) d 0 text p codes out wait r p' codes' out' wait') where
     pub behind-refused-says : {x : Refused} → r ≡ Err x → Says (plain (operands_at d)) d 0 text p₀ codes out wait r p' codes' out' wait'
     behind-refused-says e =
@@ -142,13 +143,13 @@ module _ {text : List ℕ} {p₀ p : Place} {odd : ℕ} {bang : Bool} (b : Bange
         (subst (λ (x : ℕ). FoundPart (plain (operands_at d)) d 0 text (place p₀) codes out (part x p') codes' out') (sym f)
         (behind-found text (place p₀) (place p) odd b.passed codes d out (h.found l e))) (still-twice (still-same b.waits) (h.still l e)) h.rooms
 
-pub banged-none : {text : List ℕ} {p : Place} {d : ℕ} {codes out wait : List ℕ} → Asks text p d codes out wait → {bang : Bool} → bang ≡ bangs
+pub banged-none : {text : List ℕ} {p : Place} {d : ℕ} {codes : List Code} {out wait : List ℕ} → Asks text p d codes out wait → {bang : Bool} → bang ≡ bangs
     p.token.kind →
     Banged text p p 0 bang
 banged-none {text} {p} a e = record { passed = bangs-none text (place p) a.standing.token; test = e; waits = refl }
 
 -- a guard in brackets
-module _ {text : List ℕ} {p : Place} {d : ℕ} {codes out wait : List ℕ} (a : Asks text p d codes out wait) (k : p.token.kind ≡ kind.Opening) where
+module _ {text : List ℕ} {p : Place} {d : ℕ} {codes : List Code} {out wait : List ℕ} (a : Asks text p d codes out wait) (k : p.token.kind ≡ kind.Opening) where
   pub too-deep : {x : Refused} {p' : Place} → bracket_ceiling ≤ d → RefusedAt 6 p.token.start p p' →
       Says (plain (operands_at d)) d 0 text p codes out wait (Err x) p' codes out wait
   too-deep l h =
@@ -174,7 +175,7 @@ module _ {text : List ℕ} {p : Place} {d : ℕ} {codes out wait : List ℕ} (a 
       pub later-inside : (p.token.start < p₁.token.start) × (p.token.start < length text)
       later-inside = ((v.taken t).later, omega (arith, a.standing.token.moves (ap ends k), a.standing.token.inside))
 
-      module _ {r : Result ℕ Refused} {p₂ : Place} {codes₂ out₂ wait₂ : List ℕ}
+      module _ {r : Result ℕ Refused} {p₂ : Place} {codes₂ : List Code} {out₂ wait₂ : List ℕ}
           (h : Says (plain (left_level same (below_of same (operands_at (d + 1))))) (d + 1) 4 text p₁ codes out wait r p₂ codes₂ out₂ wait₂) where
         pub inside-refused-says : {x : Refused} → r ≡ Err x → Says (plain (operands_at d)) d 0 text p codes out wait r p₂ codes₂ out₂ wait₂
         inside-refused-says e =

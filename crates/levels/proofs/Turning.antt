@@ -13,6 +13,7 @@ use Rattle.notation.specs.Grammar.{Level, left_level}
 use Rattle.notation.specs.Triplets.{literal_ceiling}
 use Rattle.notation.specs.clauses.Cut.{ahead}
 use Rattle.notation.specs.clauses.Codes.{flags_in}
+use Rattle.notation.specs.declared.codes.Code.{Code}
 use Rattle.notation.specs.declared.refusal.Refused.{Refused}
 use Rattle.notation.specs.declared.place.Place.{Place}
 use Rattle.notation.proofs.Placing.{never_both}
@@ -34,7 +35,8 @@ use Rattle.levels.proofs.Joining.{
 same-found : (l m : ℕ) (r : Result ℕ Refused) → r ≡ Ok l → r ≡ Ok m → l ≡ m
 same-found l m r e f = cc
 
-module _ {L : ℕ → Level} {d k : ℕ} {text : List ℕ} {p : Place} {codes out wait : List ℕ} {r : Result ℕ Refused} {p' : Place} {codes' out' wait' : List ℕ} where
+module _ {L : ℕ → Level} {d k : ℕ} {text : List ℕ} {p : Place} {codes : List Code} {out wait : List ℕ} {r : Result ℕ Refused} {p' : Place}
+    {codes' : List Code} {out' wait' : List ℕ} where
   -- an operand was found
   pub says-found : {l : ℕ} → r ≡ Ok l → FoundPart L d k text (place p) codes out (part l p') codes' out' → Still p wait p' wait'
       →
@@ -87,17 +89,18 @@ pub passed : {s : Sign} {text : List ℕ} {p p₁ : Place} {r : Result Unit Refu
 passed k h e = record { sign = k; past = h.taken e }
 
 -- the chain that a sign joins, read so far from p₀ to p
-pub record Sofar (s : Sign) (d : ℕ) (text : List ℕ) (p₀ : Place) (codes₀ out₀ : List ℕ) (l : ℕ) (p : Place) (codes out : List ℕ) : Type 0 where
+pub record Sofar (s : Sign) (d : ℕ) (text : List ℕ) (p₀ : Place) (codes₀ : List Code) (out₀ : List ℕ) (l : ℕ) (p : Place) (codes : List Code)
+    (out : List ℕ) : Type 0 where
   pub chain : SoFar s (below_of s (operands_at d)) d (tighter s) text (place p₀) codes₀ out₀ (part l p) codes out
 
 -- the first operand of a chain
-pub opened : {s : Sign} {d : ℕ} {text : List ℕ} {p : Place} {codes out : List ℕ} {l : ℕ} {p₁ : Place} {codes₁ out₁ : List ℕ} →
+pub opened : {s : Sign} {d : ℕ} {text : List ℕ} {p : Place} {codes : List Code} {out : List ℕ} {l : ℕ} {p₁ : Place} {codes₁ : List Code} {out₁ : List ℕ} →
     First s d text p codes out l p₁ codes₁
     out₁ →
     Sofar s d text p codes out l p₁ codes₁ out₁
 opened {s} {d} {text} {p} {codes} {out} f = record { chain = so-far-first s (below_of s (operands_at d)) d (tighter s) text (place p) codes out f }
 
-module _ {s : Sign} {d : ℕ} {text : List ℕ} {p₀ : Place} {codes₀ out₀ : List ℕ} {l : ℕ} {p : Place} {codes out : List ℕ}
+module _ {s : Sign} {d : ℕ} {text : List ℕ} {p₀ : Place} {codes₀ : List Code} {out₀ : List ℕ} {l : ℕ} {p : Place} {codes : List Code} {out : List ℕ}
     (so : Sofar s d text p₀ codes₀ out₀ l p codes out) where
   -- what passing the sign asks
   pub asks-sign : kind_is s p.token.kind ≡ true → TokenFits text p.token × (joins p.token.kind ≡ true)
@@ -134,7 +137,7 @@ module _ {s : Sign} {d : ℕ} {text : List ℕ} {p₀ : Place} {codes₀ out₀ 
           omega (arith, m, so.chain.later, so.chain.standing.token.inside),
         )
 
-    module _ {L : ℕ → Level} {k : ℕ} {wait : List ℕ} {r : Result ℕ Refused} {p₂ : Place} {codes₂ out₂ wait₂ : List ℕ}
+    module _ {L : ℕ → Level} {k : ℕ} {wait : List ℕ} {r : Result ℕ Refused} {p₂ : Place} {codes₂ : List Code} {out₂ wait₂ : List ℕ}
         (h : Says L d k text p₁ codes out wait r p₂ codes₂ out₂ wait₂) where
       -- the operand behind the sign is refused
       pub operand-refused : {x : Refused} → r ≡ Err x →
@@ -162,7 +165,7 @@ module _ {s : Sign} {d : ℕ} {text : List ℕ} {p₀ : Place} {codes₀ out₀ 
             (omega (arith, a, n.1, (h.found m e).later), n.2, sym b)
 
     -- the operand behind the sign joins the chain
-    pub joins-chain : {wait : List ℕ} {r : Result ℕ Refused} {p₂ : Place} {codes₂ out₂ wait₂ : List ℕ} →
+    pub joins-chain : {wait : List ℕ} {r : Result ℕ Refused} {p₂ : Place} {codes₂ : List Code} {out₂ wait₂ : List ℕ} →
         Says (plain (below_of s (operands_at d))) d (tighter s) text p₁ codes out wait r p₂ codes₂ out₂ wait₂ → {m : ℕ} → r ≡ Ok m →
         {w j : ℕ} {p₃ : Place} {out₃ : List ℕ} → JoinedSays s l m w p₂ out₂ j p₃ out₃ → Sofar s d text p₀ codes₀ out₀ j p₃ codes₂ out₃
     joins-chain {wait} {r} {p₂} {codes₂} {out₂} h {m} e {w} {j} {p₃} {out₃} g = record {
@@ -175,22 +178,25 @@ module _ {s : Sign} {d : ℕ} {text : List ℕ} {p₀ : Place} {codes₀ out₀ 
     }
 
 -- the loop carries every chain on that was read up to its start
-pub record On (s : Sign) (d : ℕ) (text : List ℕ) (l₁ : ℕ) (p₁ : Place) (codes₁ out₁ wait₁ : List ℕ) (l : ℕ) (p : Place) (codes out wait : List ℕ) : Type 0
+pub record On (s : Sign) (d : ℕ) (text : List ℕ) (l₁ : ℕ) (p₁ : Place) (codes₁ : List Code) (out₁ wait₁ : List ℕ) (l : ℕ) (p : Place)
+    (codes : List Code) (out wait : List ℕ) : Type 0
   where
-    pub on : (p₀ : Place) (codes₀ out₀ : List ℕ) → Sofar s d text p₀ codes₀ out₀ l₁ p₁ codes₁ out₁ → Sofar s d text p₀ codes₀ out₀ l p
+    pub on : (p₀ : Place) (codes₀ : List Code) (out₀ : List ℕ) → Sofar s d text p₀ codes₀ out₀ l₁ p₁ codes₁ out₁ → Sofar s d text p₀ codes₀ out₀ l p
         codes out
     pub still : Still p₁ wait₁ p wait
     pub waits : p₁.waiting ≤ p₁.signs → p.waiting ≤ p.signs
     pub rooms : Rooms out₁ wait₁ → Rooms out wait
     pub later : p₁.token.start ≤ p.token.start
 
-pub on-first : {s : Sign} {d : ℕ} {text : List ℕ} {l : ℕ} {p : Place} {codes out wait : List ℕ} → On s d text l p codes out wait l p codes out wait
+pub on-first : {s : Sign} {d : ℕ} {text : List ℕ} {l : ℕ} {p : Place} {codes : List Code} {out wait : List ℕ} →
+    On s d text l p codes out wait l p codes out wait
 on-first = record { on = λ p₀ codes₀ out₀ h. h; still = still-same refl; waits = λ h. h; rooms = λ h. h; later = omega arith }
 
-module _ {s : Sign} {d : ℕ} {text : List ℕ} {l₁ : ℕ} {p₁ : Place} {codes₁ out₁ wait₁ : List ℕ} {l : ℕ} {p : Place} {codes out wait : List ℕ}
+module _ {s : Sign} {d : ℕ} {text : List ℕ} {l₁ : ℕ} {p₁ : Place} {codes₁ : List Code} {out₁ wait₁ : List ℕ} {l : ℕ} {p : Place} {codes : List Code}
+    {out wait : List ℕ}
     (o : On s d text l₁ p₁ codes₁ out₁ wait₁ l p codes out wait) where
   -- a chain whose first operand was read up to the loop's start
-  pub carried : (p₀ : Place) (codes₀ out₀ : List ℕ) → First s d text p₀ codes₀ out₀ l₁ p₁ codes₁ out₁ → Sofar s d text p₀ codes₀ out₀ l
+  pub carried : (p₀ : Place) (codes₀ : List Code) (out₀ : List ℕ) → First s d text p₀ codes₀ out₀ l₁ p₁ codes₁ out₁ → Sofar s d text p₀ codes₀ out₀ l
       p codes out
   carried p₀ codes₀ out₀ f = o.on p₀ codes₀ out₀ (opened f)
 
@@ -208,8 +214,8 @@ pub joined-room : {s : Sign} {l r w : ℕ} {p : Place} {out : List ℕ} {x : ℕ
 joined-room g n = record { triplets = ap length g.written ∙ simp length-set n.triplets; literals = n.literals }
 
 -- no more literals wait than signs were seen, behind an operand and behind a sign
-pub waits-on : {L : ℕ → Level} {d k : ℕ} {text : List ℕ} {p : Place} {codes out wait : List ℕ} {r : Result ℕ Refused} {p' : Place}
-    {codes' out' wait' : List ℕ} {l : ℕ} → p.waiting ≤ p.signs →
+pub waits-on : {L : ℕ → Level} {d k : ℕ} {text : List ℕ} {p : Place} {codes : List Code} {out wait : List ℕ} {r : Result ℕ Refused} {p' : Place}
+    {codes' : List Code} {out' wait' : List ℕ} {l : ℕ} → p.waiting ≤ p.signs →
     Says L d k text p codes out wait r p' codes' out' wait' → r ≡ Ok l → p'.waiting ≤ p'.signs
 waits-on {l = l} w h e = omega (arith, w, (h.still l e).waits, (h.found l e).reads.signs)
 
@@ -217,7 +223,8 @@ pub waits-past : {s : Sign} {text : List ℕ} {p p₁ : Place} → p.waiting ≤
     ≤ p₁.signs
 waits-past w e q = omega (arith, w, e, q.past.0.signs)
 
-module _ (s : Sign) {d : ℕ} {text : List ℕ} {p₀ : Place} {codes₀ out₀ wait₀ : List ℕ} {r : Result ℕ Refused} {p : Place} {codes out wait : List ℕ} {l : ℕ}
+module _ (s : Sign) {d : ℕ} {text : List ℕ} {p₀ : Place} {codes₀ : List Code} {out₀ wait₀ : List ℕ} {r : Result ℕ Refused} {p : Place}
+    {codes : List Code} {out wait : List ℕ} {l : ℕ}
     (f : Says (plain (below_of s (operands_at d))) d (tighter s) text p₀ codes₀ out₀ wait₀ r p codes out wait) (e : r ≡ Ok l) where
   -- the first operand, where the sign of the chain does not follow: the chain is that operand
   pub left_alone : kind_is s p.token.kind ≡ false →
@@ -242,9 +249,10 @@ module _ (s : Sign) {d : ℕ} {text : List ℕ} {p₀ : Place} {codes₀ out₀ 
       ((f.found l e).later, omega (arith, m, (f.found l e).standing.token.inside))
 
 -- one turn of the loop: the sign, an operand, and both joined
-module _ {s : Sign} {d : ℕ} {text : List ℕ} {l₁ : ℕ} {p₁ : Place} {codes₁ out₁ wait₁ : List ℕ} {l : ℕ} {p : Place} {codes out wait : List ℕ}
+module _ {s : Sign} {d : ℕ} {text : List ℕ} {l₁ : ℕ} {p₁ : Place} {codes₁ : List Code} {out₁ wait₁ : List ℕ} {l : ℕ} {p : Place} {codes : List Code}
+    {out wait : List ℕ}
     (o : On s d text l₁ p₁ codes₁ out₁ wait₁ l p codes out wait) {p₂ : Place} (q : Passed s text p p₂) (w : p₂.waiting ≡ p.waiting)
-    {r : Result ℕ Refused} {p₃ : Place} {codes₃ out₃ wait₃ : List ℕ}
+    {r : Result ℕ Refused} {p₃ : Place} {codes₃ : List Code} {out₃ wait₃ : List ℕ}
     (h : Says (plain (below_of s (operands_at d))) d (tighter s) text p₂ codes out wait r p₃ codes₃ out₃ wait₃) {m : ℕ} (e : r ≡ Ok m)
     {j : ℕ} {p₄ : Place} {out₄ : List ℕ} (g : JoinedSays s l m p₃.waiting p₃ out₃ j p₄ out₄) where
   pub on-more : On s d text l₁ p₁ codes₁ out₁ wait₁ j p₄ codes₃ out₄ wait₃

@@ -14,6 +14,7 @@ use Rattle.notation.specs.Triplets.{triplet_of, literal_ceiling}
 use Rattle.notation.specs.clauses.Writing.{triplet_at}
 use Rattle.notation.specs.clauses.Cut.{ahead}
 use Rattle.notation.specs.clauses.Codes.{flags_in}
+use Rattle.notation.specs.declared.codes.Code.{Code}
 use Rattle.notation.specs.declared.refusal.Refused.{Refused}
 use Rattle.notation.specs.declared.place.Place.{Place}
 use Rattle.operands.specs.clauses.Steps.{At, Part, kind_is, joined_part, place, JoinedSays, SetAside}
@@ -22,14 +23,14 @@ use Rattle.levels.proofs.Joining.{PassedSign, so-far-first, walked_on, fewer, ri
 use Rattle.levels.proofs.Turning.{bound, Passed, Sofar, opened, asks-operand, joined-room}
 
 -- from p₀ on the operands with the literals ls, the last first, each with its sign, have been read up to p
-pub data Waiting (s : Sign) (d : ℕ) (text : List ℕ) (p₀ : Place) (codes₀ out₀ : List ℕ) : List ℕ → Place → List ℕ → List ℕ → Type 0 where
+pub data Waiting (s : Sign) (d : ℕ) (text : List ℕ) (p₀ : Place) (codes₀ : List Code) (out₀ : List ℕ) : List ℕ → Place → List Code → List ℕ → Type 0 where
   none : Waiting s d text p₀ codes₀ out₀ [] p₀ codes₀ out₀
-  more : {ks : List ℕ} {q : Place} {qcodes qout : List ℕ} {k : ℕ} {p₁ : Place} {codes₁ out₁ : List ℕ} {p₂ : Place} →
+  more : {ks : List ℕ} {q : Place} {qcodes : List Code} {qout : List ℕ} {k : ℕ} {p₁ : Place} {codes₁ : List Code} {out₁ : List ℕ} {p₂ : Place} →
       Waiting s d text p₀ codes₀ out₀ ks q qcodes qout →
       First s d text q qcodes qout k p₁ codes₁ out₁ → Passed s text p₁ p₂ → Waiting s d text p₀ codes₀ out₀ (k ∷ ks) p₂ codes₁ out₁
 
 -- the walk goes on behind the last sign
-pub waiting-walked : {s : Sign} {d : ℕ} {text : List ℕ} {p₀ : Place} {codes₀ out₀ ls : List ℕ} {p : Place} {codes out : List ℕ} →
+pub waiting-walked : {s : Sign} {d : ℕ} {text : List ℕ} {p₀ : Place} {codes₀ : List Code} {out₀ ls : List ℕ} {p : Place} {codes : List Code} {out : List ℕ} →
     Waiting s d text p₀ codes₀ out₀ ls p codes out →
     walk operand d (flags_in text codes₀ p₀.flags) p₀.signs (ahead text p₀.token)
     ≡ walk operand d (flags_in text codes p.flags) p.signs (ahead text p.token)
@@ -52,16 +53,18 @@ held_same wait wait' b (suc k) h =
     (held_same wait wait' b k (λ i g. h i (omega arith)))
 
 -- operands wait from the place b on, and behind the last sign one more was read
-pub record Rising (s : Sign) (d : ℕ) (text : List ℕ) (p₀ : Place) (codes₀ out₀ : List ℕ) (b l : ℕ) (p : Place) (codes out wait : List ℕ) : Type 0 where
+pub record Rising (s : Sign) (d : ℕ) (text : List ℕ) (p₀ : Place) (codes₀ : List Code) (out₀ : List ℕ) (b l : ℕ) (p : Place) (codes : List Code)
+    (out wait : List ℕ) : Type 0 where
   pub k : ℕ
   pub q : Place
-  pub qcodes : List ℕ
+  pub qcodes : List Code
   pub qout : List ℕ
   pub here : p.waiting ≡ b + k
   pub waits : Waiting s d text p₀ codes₀ out₀ (held wait b k) q qcodes qout
   pub last : First s d text q qcodes qout l p codes out
 
-pub rising-first : {s : Sign} {d : ℕ} {text : List ℕ} {p₀ : Place} {codes₀ out₀ : List ℕ} {b l : ℕ} {p : Place} {codes out wait : List ℕ} →
+pub rising-first : {s : Sign} {d : ℕ} {text : List ℕ} {p₀ : Place} {codes₀ : List Code} {out₀ : List ℕ} {b l : ℕ} {p : Place} {codes : List Code}
+    {out wait : List ℕ} →
     First s d text p₀ codes₀
     out₀ l p codes out →
     p.waiting ≡ b → Rising s d text p₀ codes₀ out₀ b l p codes out wait
@@ -69,7 +72,7 @@ unfolding held
 rising-first {p₀ = p₀} {codes₀ = codes₀} {out₀ = out₀} f e =
     record { k = 0; q = p₀; qcodes = codes₀; qout = out₀; here = omega (arith, e); waits = none; last = f }
 
-module _ {s : Sign} {d : ℕ} {text : List ℕ} {p₀ : Place} {codes₀ out₀ : List ℕ} {b l : ℕ} {p : Place} {codes out wait : List ℕ}
+module _ {s : Sign} {d : ℕ} {text : List ℕ} {p₀ : Place} {codes₀ : List Code} {out₀ : List ℕ} {b l : ℕ} {p : Place} {codes : List Code} {out wait : List ℕ}
     (r : Rising s d text p₀ codes₀ out₀ b l p codes out wait) where
   -- the operand behind the last sign, as the first of a chain
   pub rising-opened : Sofar s d text r.q r.qcodes r.qout l p codes out
@@ -83,7 +86,7 @@ module _ {s : Sign} {d : ℕ} {text : List ℕ} {p₀ : Place} {codes₀ out₀ 
   -- it is set aside behind its sign, and the next operand is read
   pub rising-more : {p₁ p₂ : Place} {wait₂ : List ℕ} → Passed s text p p₁ → p₁.waiting ≡ p.waiting → SetAside l p₁ wait p₂ wait₂ → Passed s
       text p p₂ →
-      {m : ℕ} {p₃ : Place} {codes₃ out₃ wait₃ : List ℕ} → First s d text p₂ codes out m p₃ codes₃ out₃ → Still p₂ wait₂ p₃ wait₃ →
+      {m : ℕ} {p₃ : Place} {codes₃ : List Code} {out₃ wait₃ : List ℕ} → First s d text p₂ codes out m p₃ codes₃ out₃ → Still p₂ wait₂ p₃ wait₃ →
       Rising s d text p₀ codes₀ out₀ b m p₃ codes₃ out₃ wait₃
   unfolding held
   rising-more {p₁} {p₂} {wait₂} q w a q₂ {m} {p₃} {codes₃} {out₃} {wait₃} f t =
@@ -106,17 +109,19 @@ module _ {s : Sign} {d : ℕ} {text : List ℕ} {p₀ : Place} {codes₀ out₀ 
       }
 
 -- operands wait from the place b on, and all behind the last sign has been read as the rest of the chain, with the literal j
-pub record Falling (s : Sign) (d : ℕ) (text : List ℕ) (p₀ : Place) (codes₀ out₀ : List ℕ) (b j : ℕ) (p : Place) (codes out wait : List ℕ) : Type 0 where
+pub record Falling (s : Sign) (d : ℕ) (text : List ℕ) (p₀ : Place) (codes₀ : List Code) (out₀ : List ℕ) (b j : ℕ) (p : Place) (codes : List Code)
+    (out wait : List ℕ) : Type 0 where
   pub k : ℕ
   pub q : Place
-  pub qcodes : List ℕ
+  pub qcodes : List Code
   pub qout : List ℕ
   pub here : p.waiting ≡ b + k
   pub waits : Waiting s d text p₀ codes₀ out₀ (held wait b k) q qcodes qout
   pub rest : FoundPart (to_the_right s (below_of s (operands_at d))) d (tighter s + 1) text (place q) qcodes qout (part j p) codes out
 
 -- where no sign follows, the last operand is the rest
-pub chain-ends : {s : Sign} {d : ℕ} {text : List ℕ} {p₀ : Place} {codes₀ out₀ : List ℕ} {b l : ℕ} {p : Place} {codes out wait : List ℕ} →
+pub chain-ends : {s : Sign} {d : ℕ} {text : List ℕ} {p₀ : Place} {codes₀ : List Code} {out₀ : List ℕ} {b l : ℕ} {p : Place} {codes : List Code}
+    {out wait : List ℕ} →
     Rising s d text p₀ codes₀
     out₀ b l p codes out wait →
     kind_is s p.token.kind ≡ false → Falling s d text p₀ codes₀ out₀ b l p codes out wait
@@ -131,22 +136,24 @@ chain-ends {s} {d} {text} r e = record {
 }
 
 -- the last that waits, with the rest behind its sign
-record Last (s : Sign) (d : ℕ) (text : List ℕ) (p₀ : Place) (codes₀ out₀ : List ℕ) (n : ℕ) (ls : List ℕ) (p : Place) (codes out : List ℕ) : Type 0 where
+record Last (s : Sign) (d : ℕ) (text : List ℕ) (p₀ : Place) (codes₀ : List Code) (out₀ : List ℕ) (n : ℕ) (ls : List ℕ) (p : Place)
+    (codes : List Code) (out : List ℕ) : Type 0 where
   q : Place
-  qcodes : List ℕ
+  qcodes : List Code
   qout : List ℕ
   p₁ : Place
   waits : Waiting s d text p₀ codes₀ out₀ ls q qcodes qout
   first : First s d text q qcodes qout n p₁ codes out
   pass : Passed s text p₁ p
 
-last_of : {s : Sign} {d : ℕ} {text : List ℕ} {p₀ : Place} {codes₀ out₀ : List ℕ} {n : ℕ} {ls : List ℕ} {p : Place} {codes out : List ℕ} →
+last_of : {s : Sign} {d : ℕ} {text : List ℕ} {p₀ : Place} {codes₀ : List Code} {out₀ : List ℕ} {n : ℕ} {ls : List ℕ} {p : Place} {codes : List Code}
+    {out : List ℕ} →
     Waiting s d text p₀ codes₀ out₀
     (n ∷ ls) p codes out →
     Last s d text p₀ codes₀ out₀ n ls p codes out
 last_of (more {ks} {q} {qcodes} {qout} {k} {p₁} w f g) = record { q = q; qcodes = qcodes; qout = qout; p₁ = p₁; waits = w; first = f; pass = g }
 
-module _ {s : Sign} {d : ℕ} {text : List ℕ} {p₀ : Place} {codes₀ out₀ : List ℕ} {b j : ℕ} {p : Place} {codes out wait : List ℕ}
+module _ {s : Sign} {d : ℕ} {text : List ℕ} {p₀ : Place} {codes₀ : List Code} {out₀ : List ℕ} {b j : ℕ} {p : Place} {codes : List Code} {out wait : List ℕ}
     (r : Falling s d text p₀ codes₀ out₀ b j p codes out wait) where
   module _ (h : b < p.waiting) where
     one_less : r.k ≡ suc (r.k - 1)
@@ -202,15 +209,16 @@ module _ {s : Sign} {d : ℕ} {text : List ℕ} {p₀ : Place} {codes₀ out₀ 
       let z : r.k ≡ 0 = omega (arith, e, r.here) in
       at_first (subst (λ (n : ℕ). Waiting s d text p₀ codes₀ out₀ (held wait b n) r.q r.qcodes r.qout) z r.waits) r.rest
     where
-      at_first : {q : Place} {qcodes qout : List ℕ} → Waiting s d text p₀ codes₀ out₀ [] q qcodes qout →
+      at_first : {q : Place} {qcodes : List Code} {qout : List ℕ} → Waiting s d text p₀ codes₀ out₀ [] q qcodes qout →
           FoundPart (to_the_right s (below_of s (operands_at d))) d (tighter s + 1) text (place q) qcodes qout (part j p) codes out →
           FoundPart (to_the_right s (below_of s (operands_at d))) d (tighter s + 1) text (place p₀) codes₀ out₀ (part j p) codes out
       at_first none x = x
 
 -- the first loop: every chain whose first operand was read up to its start has been carried on
-pub record Up (s : Sign) (d : ℕ) (text : List ℕ) (b l₁ : ℕ) (p₁ : Place) (codes₁ out₁ wait₁ : List ℕ) (l : ℕ) (p : Place) (codes out wait : List ℕ) : Type 0
+pub record Up (s : Sign) (d : ℕ) (text : List ℕ) (b l₁ : ℕ) (p₁ : Place) (codes₁ : List Code) (out₁ wait₁ : List ℕ) (l : ℕ) (p : Place)
+    (codes : List Code) (out wait : List ℕ) : Type 0
   where
-    pub up : (p₀ : Place) (codes₀ out₀ : List ℕ) → First s d text p₀ codes₀ out₀ l₁ p₁ codes₁ out₁ → Rising s d text p₀ codes₀ out₀ b l p
+    pub up : (p₀ : Place) (codes₀ : List Code) (out₀ : List ℕ) → First s d text p₀ codes₀ out₀ l₁ p₁ codes₁ out₁ → Rising s d text p₀ codes₀ out₀ b l p
         codes out wait
     pub waits : p.waiting ≤ p.signs
     pub least : b ≤ p.waiting
@@ -218,7 +226,7 @@ pub record Up (s : Sign) (d : ℕ) (text : List ℕ) (b l₁ : ℕ) (p₁ : Plac
     pub rooms : Rooms out wait
     pub later : p₁.token.start ≤ p.token.start
 
-pub up_first : {s : Sign} {d : ℕ} {text : List ℕ} {b l : ℕ} {p : Place} {codes out wait : List ℕ} → p.waiting ≡ b → p.waiting ≤ p.signs → Rooms
+pub up_first : {s : Sign} {d : ℕ} {text : List ℕ} {b l : ℕ} {p : Place} {codes : List Code} {out wait : List ℕ} → p.waiting ≡ b → p.waiting ≤ p.signs → Rooms
     out wait →
     Up s d text b l p codes out wait l p codes out wait
 up_first e w n = record {
@@ -236,7 +244,8 @@ pub passed-aside : {s : Sign} {text : List ℕ} {p p₁ : Place} {l : ℕ} {wait
     → Passed s text p p₂
 passed-aside {s} {text} {p} q a = record { sign = q.sign; past = subst (λ (x : At). PassedSign text (place p) x) (sym a.stands) q.past }
 
-module _ {s : Sign} {d : ℕ} {text : List ℕ} {b l₁ : ℕ} {p₁ : Place} {codes₁ out₁ wait₁ : List ℕ} {l : ℕ} {p : Place} {codes out wait : List ℕ}
+module _ {s : Sign} {d : ℕ} {text : List ℕ} {b l₁ : ℕ} {p₁ : Place} {codes₁ : List Code} {out₁ wait₁ : List ℕ} {l : ℕ} {p : Place}
+    {codes : List Code} {out wait : List ℕ}
     (u : Up s d text b l₁ p₁ codes₁ out₁ wait₁ l p codes out wait) {p₂ : Place} (q : Passed s text p p₂) (w : p₂.waiting ≡ p.waiting) where
   -- there is room for one literal more
   pub asks-aside : p₂.waiting < connective_ceiling
@@ -244,14 +253,14 @@ module _ {s : Sign} {d : ℕ} {text : List ℕ} {b l₁ : ℕ} {p₁ : Place} {c
 
   module _ {p₃ : Place} {wait₃ : List ℕ} (a : SetAside l p₂ wait p₃ wait₃) where
     -- what the operand behind the sign asks
-    pub asks-next : {p₀ : Place} {codes₀ out₀ : List ℕ} → Rising s d text p₀ codes₀ out₀ b l p codes out wait → d ≤ bracket_ceiling → Asks text
+    pub asks-next : {p₀ : Place} {codes₀ : List Code} {out₀ : List ℕ} → Rising s d text p₀ codes₀ out₀ b l p codes out wait → d ≤ bracket_ceiling → Asks text
         p₃ d codes out wait₃
     asks-next r c =
         asks-operand (rising-opened r) (passed-aside q a) (record { triplets = u.rooms.triplets; literals = a.table })
         (omega (arith, a.waits, w, u.waits, (passed-aside q a).past.0.signs)) c
 
     -- one more has been read
-    pub up_more : {r : Result ℕ Refused} {p₄ : Place} {codes₄ out₄ wait₄ : List ℕ} →
+    pub up_more : {r : Result ℕ Refused} {p₄ : Place} {codes₄ : List Code} {out₄ wait₄ : List ℕ} →
         Says (plain (below_of s (operands_at d))) d (tighter s) text p₃ codes out wait₃ r p₄ codes₄ out₄ wait₄ → {m : ℕ} → r ≡ Ok
         m →
         Up s d text b l₁ p₁ codes₁ out₁ wait₁ m p₄ codes₄ out₄ wait₄
@@ -268,16 +277,18 @@ module _ {s : Sign} {d : ℕ} {text : List ℕ} {b l₁ : ℕ} {p₁ : Place} {c
         }
 
 -- the second loop: every chain of which the rest was read has been carried on
-pub record Down (s : Sign) (d : ℕ) (text : List ℕ) (b l₁ : ℕ) (p₁ : Place) (codes out₁ wait : List ℕ) (l : ℕ) (p : Place) (out : List ℕ) : Type 0 where
-  pub down : (p₀ : Place) (codes₀ out₀ : List ℕ) → Falling s d text p₀ codes₀ out₀ b l₁ p₁ codes out₁ wait → Falling s d text p₀ codes₀
+pub record Down (s : Sign) (d : ℕ) (text : List ℕ) (b l₁ : ℕ) (p₁ : Place) (codes : List Code) (out₁ wait : List ℕ) (l : ℕ) (p : Place)
+    (out : List ℕ) : Type 0 where
+  pub down : (p₀ : Place) (codes₀ : List Code) (out₀ : List ℕ) → Falling s d text p₀ codes₀ out₀ b l₁ p₁ codes out₁ wait → Falling s d text p₀ codes₀
       out₀ b l p codes out wait
   pub least : b ≤ p.waiting
   pub most : p.waiting ≤ connective_ceiling
   pub rooms : Rooms out wait
 
 -- it starts where the first ends
-pub down-first : {s : Sign} {d : ℕ} {text : List ℕ} {b l₁ : ℕ} {p₁ : Place} {codes₁ out₁ wait₁ : List ℕ} {l : ℕ} {p : Place} {codes out wait : List ℕ} →
-    Up s d text b l₁ p₁ codes₁ out₁ wait₁ l p codes out wait → {p₀ : Place} {codes₀ out₀ : List ℕ} → Rising s d text p₀ codes₀ out₀ b l p
+pub down-first : {s : Sign} {d : ℕ} {text : List ℕ} {b l₁ : ℕ} {p₁ : Place} {codes₁ : List Code} {out₁ wait₁ : List ℕ} {l : ℕ} {p : Place}
+    {codes : List Code} {out wait : List ℕ} →
+    Up s d text b l₁ p₁ codes₁ out₁ wait₁ l p codes out wait → {p₀ : Place} {codes₀ : List Code} {out₀ : List ℕ} → Rising s d text p₀ codes₀ out₀ b l p
     codes out wait →
     Down s d text b l p codes out wait l p out
 down-first u r = record {
@@ -287,7 +298,7 @@ down-first u r = record {
   rooms = u.rooms;
 }
 
-pub down-more : {s : Sign} {d : ℕ} {text : List ℕ} {b l₁ : ℕ} {p₁ : Place} {codes out₁ wait : List ℕ} {l : ℕ} {p : Place} {out : List ℕ} →
+pub down-more : {s : Sign} {d : ℕ} {text : List ℕ} {b l₁ : ℕ} {p₁ : Place} {codes : List Code} {out₁ wait : List ℕ} {l : ℕ} {p : Place} {out : List ℕ} →
     Down s d text b l₁ p₁ codes out₁ wait l p out → b < p.waiting → {i : ℕ} {p₃ : Place} {out₃ : List ℕ} →
     JoinedSays s (get_or wait (p.waiting - 1) 0) l (p.waiting - 1) p out i p₃ out₃ → Down s d text b l₁ p₁ codes out₁ wait i p₃ out₃
 down-more {p = p} v h g = record {

@@ -9,7 +9,8 @@ ghost use Rattle.notation.specs.Grammar.{left_level, right_level};
 ghost use Rattle.operands.specs.clauses.Steps.{bangs};
 ghost use Rattle.levels.specs.clauses.Levels.{plain, operands_at, below_of, tighter, Asks, Says, Begun, ChainSays};
 
-use notation::ceilings::{BRACKETS, CODES_ROOM, CONNECTIVES, TRIPLETS_ROOM};
+use notation::ceilings::{BRACKETS, CONNECTIVES, FLAGS, TRIPLETS_ROOM};
+use notation::codes::Code;
 use notation::place::{Connective, Kind, Place};
 use notation::refusal::Refused;
 use notation::triplets::flipped;
@@ -24,7 +25,7 @@ pub fn same(
     text: &[u8],
     at: &mut Place,
     brackets: usize,
-    codes: &mut [usize; CODES_ROOM],
+    codes: &mut [Code; FLAGS],
     out: &mut [u16; TRIPLETS_ROOM],
     wait: &mut [u16; CONNECTIVES],
 ) -> Result<u16, Refused>
@@ -49,7 +50,7 @@ fn implies(
     text: &[u8],
     at: &mut Place,
     brackets: usize,
-    codes: &mut [usize; CODES_ROOM],
+    codes: &mut [Code; FLAGS],
     out: &mut [u16; TRIPLETS_ROOM],
     wait: &mut [u16; CONNECTIVES],
 ) -> Result<u16, Refused>
@@ -88,7 +89,7 @@ fn either(
     text: &[u8],
     at: &mut Place,
     brackets: usize,
-    codes: &mut [usize; CODES_ROOM],
+    codes: &mut [Code; FLAGS],
     out: &mut [u16; TRIPLETS_ROOM],
     wait: &mut [u16; CONNECTIVES],
 ) -> Result<u16, Refused>
@@ -113,7 +114,7 @@ fn both(
     text: &[u8],
     at: &mut Place,
     brackets: usize,
-    codes: &mut [usize; CODES_ROOM],
+    codes: &mut [Code; FLAGS],
     out: &mut [u16; TRIPLETS_ROOM],
     wait: &mut [u16; CONNECTIVES],
 ) -> Result<u16, Refused>
@@ -138,7 +139,7 @@ fn below(
     text: &[u8],
     at: &mut Place,
     brackets: usize,
-    codes: &mut [usize; CODES_ROOM],
+    codes: &mut [Code; FLAGS],
     out: &mut [u16; TRIPLETS_ROOM],
     wait: &mut [u16; CONNECTIVES],
     sign: Connective,
@@ -162,7 +163,7 @@ fn left_chain(
     text: &[u8],
     at: &mut Place,
     brackets: usize,
-    codes: &mut [usize; CODES_ROOM],
+    codes: &mut [Code; FLAGS],
     out: &mut [u16; TRIPLETS_ROOM],
     wait: &mut [u16; CONNECTIVES],
     sign: Connective,
@@ -194,7 +195,7 @@ fn operand(
     text: &[u8],
     at: &mut Place,
     brackets: usize,
-    codes: &mut [usize; CODES_ROOM],
+    codes: &mut [Code; FLAGS],
     out: &mut [u16; TRIPLETS_ROOM],
     wait: &mut [u16; CONNECTIVES],
 ) -> Result<u16, Refused>
@@ -226,7 +227,7 @@ fn plain(
     text: &[u8],
     at: &mut Place,
     brackets: usize,
-    codes: &mut [usize; CODES_ROOM],
+    codes: &mut [Code; FLAGS],
     out: &mut [u16; TRIPLETS_ROOM],
     wait: &mut [u16; CONNECTIVES],
 ) -> Result<u16, Refused>
@@ -253,7 +254,7 @@ fn bracket(
     text: &[u8],
     at: &mut Place,
     brackets: usize,
-    codes: &mut [usize; CODES_ROOM],
+    codes: &mut [Code; FLAGS],
     out: &mut [u16; TRIPLETS_ROOM],
     wait: &mut [u16; CONNECTIVES],
 ) -> Result<u16, Refused>

@@ -4,7 +4,7 @@ use native.Mathlib.Omega.{arith}
 use mathlib.Core.Path.{◌≡◌, refl, sym, ap, subst, ◌∙◌}
 use mathlib.Core.Bool.{Bool, true, false, true≢false}
 use mathlib.Core.List.{List, [], ◌∷◌, ◌++◌}
-use lib.ListN.{length, length-append, length-set}
+use lib.ListN.{length, set, length-append, length-set}
 use Rattle.std.specs.Prelude.{Result, Err}
 use lib.Dec.{leb}
 use borrow.Author.Tests.{le-leb, lt-leb}
@@ -16,7 +16,7 @@ use Rattle.notation.specs.Guard.{Guard, flag, truth, connectives}
 use Rattle.notation.specs.Grammar.{Level, found, number, past, closed, operand_of}
 use Rattle.notation.specs.Triplets.{literal, triplets, literal_ceiling}
 use Rattle.notation.specs.clauses.Cut.{part, ahead_as, ahead, ends}
-use Rattle.notation.specs.clauses.Codes.{flags_in, flag_at, InText, Keyed, PlaceOf, entered}
+use Rattle.notation.specs.clauses.Codes.{flags_in, flag_at, code_at, InText, Keyed, PlaceOf}
 use Rattle.notation.specs.clauses.Place.{RefusedAt}
 use Rattle.operands.specs.clauses.Steps.{
   At,
@@ -33,6 +33,7 @@ use Rattle.operands.specs.clauses.Steps.{
   ClosedSays,
 }
 use Rattle.notation.specs.declared.refusal.Refusal.{Refusal}
+use Rattle.notation.specs.declared.codes.Code.{Code}
 use Rattle.notation.specs.declared.place.Kind.{Kind}
 use Rattle.notation.specs.declared.place.Kind.TheVariants as kind
 use Rattle.notation.specs.declared.place.Place.{Place}
@@ -52,7 +53,7 @@ abbrev pub with_flags : At → ℕ → At
 with_flags at n = record { token = at.token; flags = n; signs = at.signs; count = at.count }
 
 -- an operand of one token: a guard with no connective, after which the reader has n flags
-pub record OneToken (text : List ℕ) (at : At) (codes codes' : List ℕ) (n : ℕ) (g : Guard) (l : ℕ) : Type 0 where
+pub record OneToken (text : List ℕ) (at : At) (codes codes' : List Code) (n : ℕ) (g : Guard) (l : ℕ) : Type 0 where
   pub plainly : connectives g ≡ 0
   pub nothing : (c : ℕ) → triplets c g ≡ []
   pub literally : (c : ℕ) → l ≡ literal c g
@@ -63,7 +64,7 @@ pub record OneToken (text : List ℕ) (at : At) (codes codes' : List ℕ) (n : �
       at.signs (past (ahead text at.token))
   pub standing : Standing text codes' (with_flags at n)
 
-module _ {text : List ℕ} {at : At} {codes codes' : List ℕ} {n : ℕ} {g : Guard} {l : ℕ} (o : OneToken text at codes codes' n g l) where
+module _ {text : List ℕ} {at : At} {codes codes' : List Code} {n : ℕ} {g : Guard} {l : ℕ} (o : OneToken text at codes codes' n g l) where
   -- such an operand, once the reader is past its token
   atom-found : (to : At) → Advanced text (with_flags at n) at.signs to → Atom text at codes l to codes'
   atom-found to a = record {
@@ -97,7 +98,7 @@ abbrev pub flags_stored : ℕ → Place → Place
 flags_stored n p = record { token = p.token; flags = n; signs = p.signs; count = p.count; waiting = p.waiting; refusal = p.refusal }
 
 -- the operand of one token, from where its token was passed
-pub atom-says : {text : List ℕ} {p : Place} {codes codes' : List ℕ} {n : ℕ} {g : Guard} {l : ℕ} → OneToken text (place p) codes codes' n g l →
+pub atom-says : {text : List ℕ} {p : Place} {codes codes' : List Code} {n : ℕ} {g : Guard} {l : ℕ} → OneToken text (place p) codes codes' n g l →
     {p' : Place} {r : Result ℕ Refused} → PastTokenSays text (flags_stored n p) l r p' → AtomSays text p codes r p' codes'
 atom-says {text} {p} {codes} {codes'} {n} {g} {l} o {p'} {r} a = record {
   found = λ m e.
@@ -124,7 +125,7 @@ literal-truth true c = refl
 literal-truth false c = refl
 
 -- `#0` or `#1` is an operand
-pub truth-token : (text : List ℕ) (at : At) (codes : List ℕ) (b : Bool) (l : ℕ) → Standing text codes at → at.token.kind ≡ kind.Truth b →
+pub truth-token : (text : List ℕ) (at : At) (codes : List Code) (b : Bool) (l : ℕ) → Standing text codes at → at.token.kind ≡ kind.Truth b →
     l ≡ choose b 0 1 → l ≤ 1 →
     OneToken text at codes codes at.flags (truth b) l
 unfolding operand_of walk connectives triplets
@@ -138,7 +139,7 @@ truth-token text at codes b l st k e h = record {
   standing = st;
 }
 
-module _ (text : List ℕ) (at : At) (codes : List ℕ) (st : Standing text codes at) (k : at.token.kind ≡ kind.Code) where
+module _ (text : List ℕ) (at : At) (codes : List Code) (st : Standing text codes at) (k : at.token.kind ≡ kind.Code) where
   flags : List Flag
   flags = flags_in text codes at.flags
 
@@ -162,7 +163,7 @@ module _ (text : List ℕ) (at : At) (codes : List ℕ) (st : Standing text code
   unfolding walk
   code-walked d = ap (walk operand d flags at.signs) ahead-is
 
-  module _ (r : ℕ) (pl : PlaceOf text codes at.flags at.token.start at.token.next r) where
+  module _ (r : ℕ) (pl : PlaceOf text codes at.flags (code_at text at.token.start at.token.next) r) where
     numbered : number name flags ≡ r + 1
     unfolding name flags
     numbered = pl.numbered
@@ -202,12 +203,11 @@ module _ (text : List ℕ) (at : At) (codes : List ℕ) (st : Standing text code
         (flags-length text codes at.flags)
 
     -- a code that is new is an operand too, and is entered into the table
-    pub new-token : at.flags ≤ r → at.flags < flag_ceiling → (l : ℕ) → l ≡ 2 * (r + 1) → (n : ℕ) → Keyed text at.token.start
-        at.token.next n →
-        OneToken text at codes (entered codes at.flags at.token.start at.token.next n) (at.flags + 1) (flag (r + 1)) l
+    pub new-token : at.flags ≤ r → at.flags < flag_ceiling → (l : ℕ) → l ≡ 2 * (r + 1) → Keyed text (code_at text at.token.start at.token.next) →
+        OneToken text at codes (set codes at.flags (code_at text at.token.start at.token.next)) (at.flags + 1) (flag (r + 1)) l
     unfolding connectives triplets literal within flags
-    new-token h i l e n key =
-        let u' = new-seen h ∙ sym (flags-entered text codes at.flags at.token.start at.token.next n st.table i) in
+    new-token h i l e key =
+        let u' = new-seen h ∙ sym (flags-entered text codes at.flags (code_at text at.token.start at.token.next) (omega (arith, st.table))) in
         record {
           plainly = refl;
           nothing = λ c. refl;
@@ -217,7 +217,7 @@ module _ (text : List ℕ) (at : At) (codes : List ℕ) (st : Standing text code
           walked = λ d. code-walked d ∙ rw (longer h, le-leb (at.flags + 1) flag_ceiling (omega arith), u');
           standing = record {
             token = st.token;
-            in_text = in-text-entered text codes at.flags at.token.start at.token.next n st.table i st.in_text key;
+            in_text = in-text-entered text codes at.flags (code_at text at.token.start at.token.next) (omega (arith, st.table)) st.in_text key;
             table = simp length-set st.table;
             flags = omega arith;
             signs = st.signs;
@@ -232,7 +232,7 @@ module _ (text : List ℕ) (at : At) (codes : List ℕ) (st : Standing text code
     too_many h i d = code-walked d ∙ rw (longer h, lt-leb (at.flags + 1) flag_ceiling (omega arith))
 
 -- a 25th flag
-pub too-many-says : {text : List ℕ} {p : Place} {codes : List ℕ} {p' : Place} {y : Refused} →
+pub too-many-says : {text : List ℕ} {p : Place} {codes : List Code} {p' : Place} {y : Refused} →
     ((d : ℕ) → walk operand d (flags_in text codes p.flags) p.signs (ahead text p.token) ≡ refused 7 p.token.start) →
     RefusedAt 7 p.token.start p p' → AtomSays text p codes (Err y) p' codes
 too-many-says h c = record {

@@ -10,11 +10,12 @@ ghost use Rattle.notation.specs.Triplets.{literal_ceiling};
 ghost use Rattle.operands.specs.clauses.Steps.{kind_is, joins, bangs, closes, place, TokenFits, Standing, AdvancedSays, PastSignSays};
 ghost use Rattle.operands.specs.clauses.Steps.{PastTokenSays, AtomSays, TruthSays, ClosedSays, JoinedSays, SetAside};
 
-use notation::ceilings::{CODES_ROOM, CONNECTIVES, FLAGS, TRIPLETS_ROOM};
+use notation::ceilings::{CONNECTIVES, FLAGS, TRIPLETS_ROOM};
+use notation::codes::{Code, place_of};
 use notation::place::{Connective, Kind, Place};
 use notation::refusal::Refused;
 use notation::tokens::token_at;
-use notation::{codes, triplets};
+use notation::triplets;
 
 // One token further.
 pub fn advanced(text: &[u8], at: &mut Place) -> Result<(), Refused>
@@ -124,27 +125,21 @@ fn past_token(text: &[u8], at: &mut Place, literal: u16) -> Result<u16, Refused>
 }
 
 // A code: a flag that is known, or a new one.
-pub fn code_operand(
-    text: &[u8],
-    at: &mut Place,
-    codes: &mut [usize; CODES_ROOM],
-) -> Result<u16, Refused>
+pub fn code_operand(text: &[u8], at: &mut Place, codes: &mut [Code; FLAGS]) -> Result<u16, Refused>
     requires standing { Standing text.now codes.old (place at.old) }
     requires at_value { at.old.token.kind ≡ Kind.Code }
     ensures { AtomSays text.now at.old codes.old result at.new codes.new }
 {
-    let start = at.token.start;
-    let next = at.token.next;
+    let code = Code::at(text, at.token.start, at.token.next);
     let flags = at.flags;
-    let key = codes::key_of(text, start, next);
-    let place = codes::place_of(text, codes, flags, start, next, key);
+    let place = place_of(text, codes, flags, code);
     if place < flags {
         return past_token(text, at, flag_literal(place));
     }
     if FLAGS <= flags {
         return Err(at.refuse_ahead(7));
     }
-    codes::enter(codes, flags, start, next, key);
+    codes[flags] = code;
     at.flags = flags + 1;
     past_token(text, at, flag_literal(place))
 }

@@ -5,6 +5,7 @@ use mathlib.Core.List.{List}
 use native.Mathlib.Omega.{arith}
 use lib.ListN.{length}
 use borrow.Author.Tests.{le-leb, lt-leb}
+use Rattle.notation.specs.declared.codes.Code.{Code}
 use Rattle.notation.specs.Ceilings.{connective_ceiling}
 use Rattle.packs.specs.Refusals.{fault}
 use Rattle.notation.specs.declared.refusal.Refusal.{Refusal}
@@ -38,7 +39,7 @@ pub too-deep : (file : List ℕ) (depth : ℕ) → depth_ceiling < depth → (f 
 too-deep file depth d f e = says file depth (refusal (fault 2 0)) _ (asks-deep file depth d) (ap verdict.Refused e)
 
 -- the refusal that reading answered is that of the pack
-refusal-found : (file : List ℕ) (x : PackReading) (r : Pack) (codes pool spans : List ℕ) → PackSays file x r codes pool spans → (f : Refusal)
+refusal-found : (file : List ℕ) (x : PackReading) (r : Pack) (codes : List Code) (pool spans : List ℕ) → PackSays file x r codes pool spans → (f : Refusal)
     → r ≡ answer.Refused f → x ≡ refusal f
 refusal-found file (refusal h) r codes pool spans s f e =
     let a : r ≡ answer.Refused h = s in
@@ -57,7 +58,7 @@ pub record LineFound (file : List ℕ) (x : PackReading) (found : Line) (pool sp
   pub held : LineHeld (length its.flags) its.rule its.variants spans pool
   pub rooms : (length pool ≡ 3 * connective_ceiling) × (length spans ≡ spans_room)
 
-pub line-found : (file : List ℕ) (x : PackReading) (r : Pack) (codes pool spans : List ℕ) → PackSays file x r codes pool spans → (found : Line)
+pub line-found : (file : List ℕ) (x : PackReading) (r : Pack) (codes : List Code) (pool spans : List ℕ) → PackSays file x r codes pool spans → (found : Line)
     → r ≡ answer.Line found → LineFound file x found pool spans
 line-found file (refusal h) r codes pool spans s found e =
     let a : r ≡ answer.Refused h = s in
@@ -87,7 +88,7 @@ found-stands file x found pool spans f =
 
 module _ (file : List ℕ) (depth : ℕ) (d : depth ≤ depth_ceiling) where
   -- a refusal of the pack is passed on
-  pub refused-too : (r : Pack) (codes pool spans : List ℕ) → PackSays file (pack_read file) r codes pool spans → (f : Refusal)
+  pub refused-too : (r : Pack) (codes : List Code) (pool spans : List ℕ) → PackSays file (pack_read file) r codes pool spans → (f : Refusal)
       → r ≡ answer.Refused f → PackChecked file depth (verdict.Refused f)
   refused-too r codes pool spans s f e =
       says file depth (refusal f) _ (asks-pack file depth d ∙ refusal-found file (pack_read file) r codes pool spans s f e) refl

@@ -10,7 +10,8 @@ use crate::due::{Due, Role, role_of};
 use crate::faults::fault;
 use crate::pool::{keep, note, note_text};
 use fields::{Field, field_at};
-use notation::ceilings::{CODES_ROOM, TRIPLETS_ROOM};
+use notation::ceilings::{FLAGS, TRIPLETS_ROOM};
+use notation::codes::Code;
 use notation::refusal::Refusal;
 use questions::{SPANS_ROOM, VARIANTS};
 use reading::parse::{Parsed, parse_from};
@@ -51,7 +52,7 @@ fn read_guard(
     flags: usize,
     total: usize,
     row: usize,
-    codes: &mut [usize; CODES_ROOM],
+    codes: &mut [Code; FLAGS],
     pool: &mut [u16; TRIPLETS_ROOM],
     spans: &mut [usize; SPANS_ROOM],
 ) -> Parsed
@@ -77,7 +78,7 @@ fn id_step(
     p: Progress,
     start: usize,
     end: usize,
-    codes: &[usize; CODES_ROOM],
+    codes: &[Code; FLAGS],
     pool: &[u16; TRIPLETS_ROOM],
     spans: &[usize; SPANS_ROOM],
 ) -> Step
@@ -106,7 +107,7 @@ fn rule_step(
     p: Progress,
     start: usize,
     end: usize,
-    codes: &mut [usize; CODES_ROOM],
+    codes: &mut [Code; FLAGS],
     pool: &mut [u16; TRIPLETS_ROOM],
     spans: &mut [usize; SPANS_ROOM],
 ) -> Step
@@ -132,7 +133,7 @@ fn variant_step(
     p: Progress,
     start: usize,
     end: usize,
-    codes: &mut [usize; CODES_ROOM],
+    codes: &mut [Code; FLAGS],
     pool: &mut [u16; TRIPLETS_ROOM],
     spans: &mut [usize; SPANS_ROOM],
 ) -> Step
@@ -162,7 +163,7 @@ fn text_step(
     p: Progress,
     start: usize,
     end: usize,
-    codes: &[usize; CODES_ROOM],
+    codes: &[Code; FLAGS],
     pool: &[u16; TRIPLETS_ROOM],
     spans: &mut [usize; SPANS_ROOM],
 ) -> Step
@@ -201,7 +202,7 @@ fn field_step(
     tag: u8,
     start: usize,
     end: usize,
-    codes: &mut [usize; CODES_ROOM],
+    codes: &mut [Code; FLAGS],
     pool: &mut [u16; TRIPLETS_ROOM],
     spans: &mut [usize; SPANS_ROOM],
 ) -> Step
@@ -224,7 +225,7 @@ fn field_step(
 pub fn step_on(
     file: &[u8],
     p: Progress,
-    codes: &mut [usize; CODES_ROOM],
+    codes: &mut [Code; FLAGS],
     pool: &mut [u16; TRIPLETS_ROOM],
     spans: &mut [usize; SPANS_ROOM],
 ) -> Step

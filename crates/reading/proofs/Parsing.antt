@@ -19,6 +19,7 @@ use Rattle.notation.specs.Reading.{Reading, refusal, guard, judged, reading, tre
 use Rattle.notation.specs.Tokens as words
 use Rattle.notation.specs.clauses.Cut.{ahead_as, ahead, ends}
 use Rattle.notation.specs.clauses.Codes.{flags_in, InText}
+use Rattle.notation.specs.declared.codes.Code.{Code}
 use Rattle.notation.specs.clauses.Place.{before, CutSays}
 use Rattle.notation.specs.declared.place.Kind.{Kind}
 use Rattle.notation.specs.declared.place.Kind.TheVariants as kind
@@ -70,7 +71,7 @@ not-ended kind.Opening text p e u m h i = refl
 not-ended kind.Closing text p e u m h i = refl
 
 -- no code was seen before
-pub none_seen : (text codes : List ℕ) → InText text codes 0
+pub none_seen : (text : List ℕ) (codes : List Code) → InText text codes 0
 none_seen text codes = record {
   room = omega arith;
   starts = λ i h. absurd (omega arith);
@@ -78,7 +79,8 @@ none_seen text codes = record {
   keys = λ i h. absurd (omega arith);
 }
 
-pub parsed-whole : (text : List ℕ) (r : Parsed) (codes codes' out' : List ℕ) → ParseSays text (reading_from text 0 (flags_in text codes 0)) r codes'
+pub parsed-whole : (text : List ℕ) (r : Parsed) (codes codes' : List Code) (out' : List ℕ) →
+    ParseSays text (reading_from text 0 (flags_in text codes 0)) r codes'
     out' →
     ParseSays text (reading text) r codes' out'
 unfolding flags_in
@@ -97,7 +99,7 @@ module _ (text : List ℕ) (from : ℕ) (u₀ : List Flag) (h : length text - fr
   walk-accepts u m e = rw (le-leb (length text - from) text_ceiling h, e)
 
   says-refusal : (k p : ℕ) → walk operand 0 u₀ 0 (tokens_at text from) ≡ refused k p → (r : Parsed) → r ≡ refused_with k p
-      → (codes out : List ℕ) →
+      → (codes : List Code) (out : List ℕ) →
       ParseSays text (reading_from text from u₀) r codes out
   says-refusal k p e r f codes out = subst (λ (x : Reading). ParseSays text x r codes out) (sym (walk-refuses k p e)) f
 
@@ -106,15 +108,15 @@ module _ {text : List ℕ} {from n : ℕ} {p p₁ : Place} {s : Result Unit Refu
   c : CutSays text from (before from n) s p₁
   c = subst (λ (x : Place). CutSays text x.token.next x s p₁) b at-p
 
-  module _ (h : length text - from ≤ text_ceiling) (codes : List ℕ) where
+  module _ (h : length text - from ≤ text_ceiling) (codes : List Code) where
     -- a faulty first token
-    pub faulty-first : {x : Refused} → s ≡ Err x → {r : Parsed} → r ≡ parsed.Refused p₁.refusal → (codes' out' : List ℕ) →
+    pub faulty-first : {x : Refused} → s ≡ Err x → {r : Parsed} → r ≡ parsed.Refused p₁.refusal → (codes' : List Code) (out' : List ℕ) →
         ParseSays text (reading_from text from (flags_in text codes n)) r codes' out'
     faulty-first e {r} q codes' out' =
         says-refusal text from (flags_in text codes n) h p₁.refusal.number p₁.refusal.place
         (c.refused _ e operand 0 (flags_in text codes n) 0) r q codes' out'
 
-    module _ (e : s ≡ Ok tt) {out wait : List ℕ} {a : Result ℕ Refused} {p₂ : Place} {codes₂ out₂ wait₂ : List ℕ}
+    module _ (e : s ≡ Ok tt) {out wait : List ℕ} {a : Result ℕ Refused} {p₂ : Place} {codes₂ : List Code} {out₂ wait₂ : List ℕ}
         (v : Says (plain (left_level words.same (below_of words.same (operands_at 0)))) 0 4 text p₁ codes out wait a p₂ codes₂ out₂ wait₂) where
       flags-first : p₁.flags ≡ n
       flags-first = c.behind.flags

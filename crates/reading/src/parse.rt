@@ -7,7 +7,8 @@ ghost use Rattle.levels.specs.clauses.Levels.{part};
 ghost use Rattle.reading.specs.clauses.Parsing.{ParseSays, ended_as};
 
 use levels::same;
-use notation::ceilings::{CODES_ROOM, CONNECTIVES, TEXT, TRIPLETS_ROOM};
+use notation::ceilings::{CONNECTIVES, FLAGS, TEXT, TRIPLETS_ROOM};
+use notation::codes::Code;
 use notation::place::{Kind, Place};
 use notation::refusal::Refusal;
 use notation::tokens::token_at;
@@ -49,7 +50,7 @@ pub fn parse_from(
     text: &[u8],
     from: usize,
     flags: usize,
-    codes: &mut [usize; CODES_ROOM],
+    codes: &mut [Code; FLAGS],
     out: &mut [u16; TRIPLETS_ROOM],
 ) -> Parsed
     requires codes_len { (length codes.old ≡ codes_room) × (length out.old ≡ 3 * connective_ceiling) }
@@ -79,7 +80,7 @@ pub fn parse_from(
 }
 
 // The guard of a text, or its refusal. A refusal may have changed the lent tables.
-pub fn parse(text: &[u8], codes: &mut [usize; CODES_ROOM], out: &mut [u16; TRIPLETS_ROOM]) -> Parsed
+pub fn parse(text: &[u8], codes: &mut [Code; FLAGS], out: &mut [u16; TRIPLETS_ROOM]) -> Parsed
     requires { (length codes.old ≡ codes_room) × (length out.old ≡ 3 * connective_ceiling) }
     ensures { ParseSays text.now (reading text.now) result codes.new out.new }
 {

@@ -8,6 +8,7 @@ use Rattle.notation.specs.Grammar.{Level, found, sign_next, operand_of, in_brack
 use Rattle.notation.specs.Triplets.{literal, triplets, numbers, literal_ceiling}
 use Rattle.notation.specs.clauses.Cut.{ahead}
 use Rattle.notation.specs.clauses.Codes.{flags_in}
+use Rattle.notation.specs.declared.codes.Code.{Code}
 use Rattle.notation.specs.declared.refusal.Refused.{Refused}
 use Rattle.notation.specs.declared.place.Place.{Place}
 use Rattle.operands.specs.clauses.Steps.{At, Part, binding, place, Standing}
@@ -28,7 +29,8 @@ pub record Writes (c c' : ℕ) (out out' : List ℕ) (g : Guard) (l : ℕ) : Typ
   pub written : take (3 * c') out' ≡ take (3 * c) out ++ numbers (triplets c g)
 
 -- an operand was read from where the reader stood
-pub record FoundPart (L : ℕ → Level) (d k : ℕ) (text : List ℕ) (at : At) (codes out : List ℕ) (p : Part) (codes' out' : List ℕ) : Type 0 where
+pub record FoundPart (L : ℕ → Level) (d k : ℕ) (text : List ℕ) (at : At) (codes : List Code) (out : List ℕ) (p : Part) (codes' : List Code)
+    (out' : List ℕ) : Type 0 where
   pub guard : Guard
   pub reads : Reads L d k (flags_in text codes at.flags) at.signs (ahead text at.token)
       guard (flags_in text codes' p.at.flags) p.at.signs (ahead text p.at.token)
@@ -67,7 +69,7 @@ pub record Rooms (out wait : List ℕ) : Type 0 where
   pub literals : length wait ≡ connective_ceiling
 
 -- what a level asks, d brackets being open: no more literals wait than signs were seen
-pub record Asks (text : List ℕ) (p : Place) (d : ℕ) (codes out wait : List ℕ) : Type 0 where
+pub record Asks (text : List ℕ) (p : Place) (d : ℕ) (codes : List Code) (out wait : List ℕ) : Type 0 where
   pub rooms : Rooms out wait
   pub standing : Standing text codes (place p)
   pub waits : p.waiting ≤ p.signs
@@ -79,8 +81,8 @@ pub record Still (p : Place) (wait : List ℕ) (p' : Place) (wait' : List ℕ) :
   pub others : (i : ℕ) → i < p.waiting → get_or wait' i 0 ≡ get_or wait i 0
 
 -- what a level answers
-pub record Says (L : ℕ → Level) (d k : ℕ) (text : List ℕ) (p : Place) (codes out wait : List ℕ) (r : Result ℕ Refused) (p' : Place)
-    (codes' out' wait' : List ℕ) : Type 0 where
+pub record Says (L : ℕ → Level) (d k : ℕ) (text : List ℕ) (p : Place) (codes : List Code) (out wait : List ℕ) (r : Result ℕ Refused) (p' : Place)
+    (codes' : List Code) (out' wait' : List ℕ) : Type 0 where
   pub found : (l : ℕ) → r ≡ Ok l → FoundPart L d k text (place p) codes out (part l p') codes' out'
   pub refused : (x : Refused) → r ≡ Err x →
       walk operand d (flags_in text codes p.flags) p.signs (ahead text p.token) ≡ refused p'.refusal.number p'.refusal.place
@@ -88,14 +90,14 @@ pub record Says (L : ℕ → Level) (d k : ℕ) (text : List ℕ) (p : Place) (c
   pub rooms : Rooms out' wait'
 
 -- the first operand of a chain that the sign s joins was read from p₀, and the reader stands at p after it
-abbrev pub First : Sign → ℕ → List ℕ → Place → List ℕ → List ℕ → ℕ → Place → List ℕ → List ℕ → Type 0
+abbrev pub First : Sign → ℕ → List ℕ → Place → List Code → List ℕ → ℕ → Place → List Code → List ℕ → Type 0
 First s d text p₀ codes₀ out₀ l p codes out = FoundPart (plain (below_of s (operands_at d))) d (tighter s) text (place p₀) codes₀ out₀ (part l p)
     codes out
 
 -- what the rest of a chain asks: a first operand was read from some place
-pub record Begun (s : Sign) (d : ℕ) (text : List ℕ) (l : ℕ) (p : Place) (codes out wait : List ℕ) : Type 0 where
+pub record Begun (s : Sign) (d : ℕ) (text : List ℕ) (l : ℕ) (p : Place) (codes : List Code) (out wait : List ℕ) : Type 0 where
   pub from : Place
-  pub from_codes : List ℕ
+  pub from_codes : List Code
   pub from_out : List ℕ
   pub first : First s d text from from_codes from_out l p codes out
   pub rooms : Rooms out wait
@@ -103,8 +105,8 @@ pub record Begun (s : Sign) (d : ℕ) (text : List ℕ) (l : ℕ) (p : Place) (c
   pub brackets : d ≤ bracket_ceiling
 
 -- what it answers: wherever the first operand was read from, the chain is read from there
-abbrev pub ChainSays : Sign → ℕ → List ℕ → ℕ → Place → List ℕ → List ℕ → List ℕ → Result ℕ Refused → Place → List ℕ
+abbrev pub ChainSays : Sign → ℕ → List ℕ → ℕ → Place → List Code → List ℕ → List ℕ → Result ℕ Refused → Place → List Code
     → List ℕ → List ℕ → Type 0
 ChainSays s d text l p codes out wait r p' codes' out' wait' =
-    (p₀ : Place) (codes₀ out₀ wait₀ : List ℕ) → First s d text p₀ codes₀ out₀ l p codes out → Still p₀ wait₀ p wait →
+    (p₀ : Place) (codes₀ : List Code) (out₀ wait₀ : List ℕ) → First s d text p₀ codes₀ out₀ l p codes out → Still p₀ wait₀ p wait →
     Says (plain (left_level s (below_of s (operands_at d)))) d (tighter s + 1) text p₀ codes₀ out₀ wait₀ r p' codes' out' wait'

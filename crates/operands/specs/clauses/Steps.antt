@@ -11,6 +11,7 @@ use Rattle.notation.specs.clauses.Writing.{triplet_at}
 use Rattle.notation.specs.clauses.Cut.{ahead, ends, sign_of, FaultyHere}
 use Rattle.notation.specs.clauses.Codes.{codes_room, flags_in, InText}
 use Rattle.notation.specs.declared.refusal.Refused.{Refused}
+use Rattle.notation.specs.declared.codes.Code.{Code}
 use Rattle.notation.specs.declared.place.Kind.{Kind}
 use Rattle.notation.specs.declared.place.Kind.TheVariants as kind
 use Rattle.notation.specs.declared.place.Token.{Token}
@@ -85,7 +86,7 @@ pub record TokenFits (text : List ℕ) (t : Token) : Type 0 where
   pub inside : t.next ≤ length text
 
 -- where the reader stands is right: the token ahead, the table, and the numbers behind
-pub record Standing (text codes : List ℕ) (at : At) : Type 0 where
+pub record Standing (text : List ℕ) (codes : List Code) (at : At) : Type 0 where
   pub token : TokenFits text at.token
   pub in_text : InText text codes at.flags
   pub table : length codes ≡ codes_room
@@ -122,7 +123,7 @@ pub record PastTokenSays (text : List ℕ) (p : Place) (l : ℕ) (r : Result ℕ
   pub waits : p'.waiting ≡ p.waiting
 
 -- an operand that is no bracket was read: a guard with no connective, wherever it stands
-pub record Atom (text : List ℕ) (at : At) (codes : List ℕ) (l : ℕ) (to : At) (codes' : List ℕ) : Type 0 where
+pub record Atom (text : List ℕ) (at : At) (codes : List Code) (l : ℕ) (to : At) (codes' : List Code) : Type 0 where
   pub guard : Guard
   pub plainly : connectives guard ≡ 0
   pub nothing : (c : ℕ) → triplets c guard ≡ []
@@ -138,7 +139,7 @@ pub record Atom (text : List ℕ) (at : At) (codes : List ℕ) (l : ℕ) (to : A
   pub later : at.token.start < to.token.start
 
 -- such an operand, or the walk is refused
-pub record AtomSays (text : List ℕ) (p : Place) (codes : List ℕ) (r : Result ℕ Refused) (p' : Place) (codes' : List ℕ) : Type 0 where
+pub record AtomSays (text : List ℕ) (p : Place) (codes : List Code) (r : Result ℕ Refused) (p' : Place) (codes' : List Code) : Type 0 where
   pub found : (l : ℕ) → r ≡ Ok l → Atom text (place p) codes l (place p') codes'
   pub refused : (e : Refused) → r ≡ Err e → (d : ℕ) →
       walk operand d (flags_in text codes p.flags) p.signs (ahead text p.token) ≡ refused p'.refusal.number p'.refusal.place
@@ -146,7 +147,7 @@ pub record AtomSays (text : List ℕ) (p : Place) (codes : List ℕ) (r : Result
 
 -- `#0` or `#1`, whatever the table holds
 abbrev pub TruthSays : List ℕ → Place → Result ℕ Refused → Place → Type 0
-TruthSays text p r p' = (codes : List ℕ) → Standing text codes (place p) → AtomSays text p codes r p' codes
+TruthSays text p r p' = (codes : List Code) → Standing text codes (place p) → AtomSays text p codes r p' codes
 
 -- past a closing bracket the guard in brackets is an operand
 pub record Closed (text : List ℕ) (at to : At) : Type 0 where
