@@ -20,7 +20,7 @@ use operands::{
 };
 
 // A guard: operands joined by `=`, which groups to the left.
-#[cycle(below_both_bracket_either_implies_left_chain_operand_plain_same)]
+#[cycle(levels)]
 pub fn same(
     text: &[u8],
     at: &mut Place,
@@ -45,7 +45,7 @@ pub fn same(
 }
 
 // Operands joined by `>`, which groups to the right: those before a sign wait, and are joined from the right when the chain ends.
-#[cycle(below_both_bracket_either_implies_left_chain_operand_plain_same)]
+#[cycle(levels)]
 fn implies(
     text: &[u8],
     at: &mut Place,
@@ -84,7 +84,7 @@ fn implies(
 }
 
 // Operands joined by `|`, which groups to the left.
-#[cycle(below_both_bracket_either_implies_left_chain_operand_plain_same)]
+#[cycle(levels)]
 fn either(
     text: &[u8],
     at: &mut Place,
@@ -109,7 +109,7 @@ fn either(
 }
 
 // Operands joined by `&`, which groups to the left.
-#[cycle(below_both_bracket_either_implies_left_chain_operand_plain_same)]
+#[cycle(levels)]
 fn both(
     text: &[u8],
     at: &mut Place,
@@ -134,7 +134,7 @@ fn both(
 }
 
 // The level whose operands a sign joins.
-#[cycle(below_both_bracket_either_implies_left_chain_operand_plain_same)]
+#[cycle(levels)]
 fn below(
     text: &[u8],
     at: &mut Place,
@@ -158,7 +158,7 @@ fn below(
 }
 
 // The further operands of a chain that a sign joins to the left.
-#[cycle(below_both_bracket_either_implies_left_chain_operand_plain_same)]
+#[cycle(levels)]
 fn left_chain(
     text: &[u8],
     at: &mut Place,
@@ -190,7 +190,7 @@ fn left_chain(
 }
 
 // An operand with any number of `!` before it.
-#[cycle(below_both_bracket_either_implies_left_chain_operand_plain_same)]
+#[cycle(levels)]
 fn operand(
     text: &[u8],
     at: &mut Place,
@@ -222,7 +222,7 @@ fn operand(
 }
 
 // An operand with no `!` before it: a code, `#0` or `#1`, or a guard in brackets.
-#[cycle(below_both_bracket_either_implies_left_chain_operand_plain_same)]
+#[cycle(levels)]
 fn plain(
     text: &[u8],
     at: &mut Place,
@@ -241,15 +241,12 @@ fn plain(
         Kind::Code => code_operand(text, at, codes),
         Kind::Truth(truth) => truth_operand(text, at, truth),
         Kind::Opening => bracket(text, at, brackets, codes, out, wait),
-        Kind::End => Err(at.refuse_ahead(5)),
-        Kind::Bang => Err(at.refuse_ahead(5)),
-        Kind::Sign(_) => Err(at.refuse_ahead(5)),
-        Kind::Closing => Err(at.refuse_ahead(5)),
+        _ => Err(at.refuse_ahead(5)),
     }
 }
 
 // A guard in brackets, which is an operand again.
-#[cycle(below_both_bracket_either_implies_left_chain_operand_plain_same)]
+#[cycle(levels)]
 fn bracket(
     text: &[u8],
     at: &mut Place,

@@ -22,6 +22,7 @@ use Rattle.operands.specs.clauses.Steps.{
   At,
   binding,
   joins,
+  bangs,
   closes,
   place,
   Standing,
@@ -317,6 +318,16 @@ opens kind.Bang = true
 opens (kind.Sign c) = false
 opens kind.Opening = true
 opens kind.Closing = false
+
+pub no-opener : (k : Kind) → bangs k ≡ false → (k ≡ kind.Code → ⊥) → ((b : Bool) → k ≡ kind.Truth b → ⊥) → (k ≡ kind.Opening → ⊥) →
+    opens k ≡ false
+no-opener kind.End b c t o = refl
+no-opener kind.Code b c t o = absurd (c refl)
+no-opener (kind.Truth x) b c t o = absurd (t x refl)
+no-opener kind.Bang b c t o = absurd (true≢false b)
+no-opener (kind.Sign s) b c t o = refl
+no-opener kind.Opening b c t o = absurd (o refl)
+no-opener kind.Closing b c t o = refl
 
 pub no_operand : (k : Kind) (text : List ℕ) (p e d : ℕ) (u : List Flag) (m : ℕ) → opens k ≡ false →
     walk operand d u m (ahead_as k text p e) ≡ refused 5 p

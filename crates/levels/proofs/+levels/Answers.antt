@@ -18,9 +18,9 @@ use Rattle.levels.proofs.Turning.{sign-refused, chain-read, asks-operand, nearer
 use Rattle.levels.proofs.Turning.{says-refused}
 use Rattle.levels.proofs.Nested.{banged-none, bang-refused, bang-more, behind-says}
 use mathlib.Core.Path.{sym, ap, ◌∙◌}
-use Rattle.operands.proofs.Operands.{opens}
+use Rattle.operands.proofs.Operands.{no-opener}
 use Rattle.levels.proofs.Nested.{atom-level, misplaced}
-use Rattle.levels.proofs.+below_both_bracket_either_implies_left_chain_operand_plain_same.Goals as goal
+use Rattle.levels.proofs.+levels.Goals as goal
 
 pub both-returns-then-not-sign_follows : goal.both-returns-then-not-sign_follows
 both-returns-then-not-sign_follows t c =
@@ -253,17 +253,10 @@ pub plain-returns-in-Truth : goal.plain-returns-in-Truth
 plain-returns-in-Truth t c =
     atom-level c.requires.asks (c.truth_operand.ensures c.args.codes.now c.requires.asks.standing)
 
-pub plain-returns-in-End : goal.plain-returns-in-End
-plain-returns-in-End t c =
-    misplaced c.requires.asks (ap opens c.in-End.is) c.refuse_ahead.ensures
-
-pub plain-returns-in-Sign : goal.plain-returns-in-Sign
-plain-returns-in-Sign t c =
-    misplaced c.requires.asks (ap opens c.in-Sign.is) c.refuse_ahead-in-Sign.ensures
-
-pub plain-returns-in-Closing : goal.plain-returns-in-Closing
-plain-returns-in-Closing t c =
-    misplaced c.requires.asks (ap opens c.in-Closing.is) c.refuse_ahead-in-Closing.ensures
+pub plain-returns-in_default : goal.plain-returns-in_default
+plain-returns-in_default t c =
+    misplaced c.requires.asks (no-opener _ c.requires.at_value c.in_default.not-Code c.in_default.not-Truth c.in_default.not-Opening)
+    c.refuse_ahead.ensures
 
 pub same-returns-then-not-sign_follows : goal.same-returns-then-not-sign_follows
 same-returns-then-not-sign_follows t c =

@@ -16,7 +16,7 @@ use Rattle.levels.proofs.Turning.{On}
 use Rattle.levels.proofs.Nested.{Banged}
 use Rattle.levels.proofs.Waiting.{Up, Down}
 use Prim.Native.Nat.{◌+◌, ◌-◌, ◌*◌}
-use Rattle.levels.proofs.+below_both_bracket_either_implies_left_chain_operand_plain_same.Given as goal
+use Rattle.levels.proofs.+levels.Given as goal
 
 abbrev pub decreases-below : goal.decreases-below
 decreases-below l = 8 * (length l.text.now - l.at.now.token.start) + 7
