@@ -30,6 +30,7 @@ use Rattle.operands.specs.clauses.Steps.{
   AtomSays,
   ClosedSays,
 }
+use Rattle.operands.specs.declared.waiting.Stack.{Stack}
 use Rattle.operands.proofs.Operands.{no_operand, no-tighter, opens}
 use Rattle.operands.proofs.Stepping.{stops-joins}
 use Rattle.levels.specs.clauses.Levels.{plain, operands_at, below_of, part, FoundPart, Asks, Says}
@@ -49,10 +50,10 @@ use Rattle.levels.proofs.Nesting.{
   behind-refused,
   behind-found,
 }
-use Rattle.levels.proofs.Turning.{says-found, says-refused, still-same, still-twice}
+use Rattle.levels.proofs.Turning.{says-found, says-refused, still-same}
 
 -- an operand of one token
-module _ {text : List ℕ} {p : Place} {d : ℕ} {codes : List Code} {out wait : List ℕ} (a : Asks text p d codes out wait) where
+module _ {text : List ℕ} {p : Place} {d : ℕ} {codes : List Code} {out : List ℕ} {wait : Stack} (a : Asks text p d codes out wait) where
   atom-part : {l : ℕ} (p' : Place) {codes' : List Code} → Atom text (place p) codes l (place p') codes' →
       FoundPart (plain (operands_at d)) d 0 text (place p) codes out (part l p') codes' out
   unfolding numbers
@@ -81,7 +82,7 @@ module _ {text : List ℕ} {p : Place} {d : ℕ} {codes : List Code} {out wait :
   atom-level {r} {p'} {codes'} h = record {
     found = λ l e. atom-part p' (h.found l e);
     refused = λ x e. h.refused x e d;
-    still = λ l e. still-same h.waits;
+    still = λ l e. still-same;
     rooms = a.rooms;
   }
 
@@ -96,7 +97,6 @@ module _ {text : List ℕ} {p : Place} {d : ℕ} {codes : List Code} {out wait :
 pub record Banged (text : List ℕ) (p₀ p : Place) (odd : ℕ) (bang : Bool) : Type 0 where
   pub passed : Bangs text (place p₀) (place p) odd
   pub test : bang ≡ bangs p.token.kind
-  pub waits : p.waiting ≡ p₀.waiting
 
 module _ {text : List ℕ} {p₀ p : Place} {odd : ℕ} {bang : Bool} (b : Banged text p₀ p odd bang) where
   module _ (k : bang ≡ true) where
@@ -118,19 +118,18 @@ module _ {text : List ℕ} {p₀ p : Place} {odd : ℕ} {bang : Bool} (b : Bange
       bang-more e t = record {
         passed = bangs-more text (place p₀) (place p) odd b.passed is-bang (place p₁) (h.taken e);
         test = t;
-        waits = h.waits ∙ b.waits;
       }
 
-  module _ {d : ℕ} {codes : List Code} {out wait : List ℕ} (a : Asks text p₀ d codes out wait) where
+  module _ {d : ℕ} {codes : List Code} {out : List ℕ} {wait : Stack} (a : Asks text p₀ d codes out wait) where
     pub asks-behind : Asks text p d codes out wait
     asks-behind = record {
       rooms = a.rooms;
       standing = here-standing text (place p₀) (place p) odd b.passed codes a.standing;
-      waits = omega (arith, b.waits, b.passed.signs, a.waits);
+      waits = omega (arith, b.passed.signs, a.waits);
       brackets = a.brackets;
     }
 
-  module _ {d : ℕ} {codes : List Code} {out wait : List ℕ} {r : Result ℕ Refused} {p' : Place} {codes' : List Code} {out' wait' : List ℕ}
+  module _ {d : ℕ} {codes : List Code} {out : List ℕ} {wait : Stack} {r : Result ℕ Refused} {p' : Place} {codes' : List Code} {out' : List ℕ} {wait' : Stack}
       (h : Says (plain (operands_at d)) d 0 text p codes out wait r p' codes' out' wait') where
     pub behind-refused-says : {x : Refused} → r ≡ Err x → Says (plain (operands_at d)) d 0 text p₀ codes out wait r p' codes' out' wait'
     behind-refused-says e =
@@ -141,15 +140,15 @@ module _ {text : List ℕ} {p₀ p : Place} {odd : ℕ} {bang : Bool} (b : Bange
     behind-says {l} e m f =
         says-found refl
         (subst (λ (x : ℕ). FoundPart (plain (operands_at d)) d 0 text (place p₀) codes out (part x p') codes' out') (sym f)
-        (behind-found text (place p₀) (place p) odd b.passed codes d out (h.found l e))) (still-twice (still-same b.waits) (h.still l e)) h.rooms
+        (behind-found text (place p₀) (place p) odd b.passed codes d out (h.found l e))) (h.still l e) h.rooms
 
-pub banged-none : {text : List ℕ} {p : Place} {d : ℕ} {codes : List Code} {out wait : List ℕ} → Asks text p d codes out wait → {bang : Bool} → bang ≡ bangs
+pub banged-none : {text : List ℕ} {p : Place} {d : ℕ} {codes : List Code} {out : List ℕ} {wait : Stack} → Asks text p d codes out wait → {bang : Bool} → bang ≡ bangs
     p.token.kind →
     Banged text p p 0 bang
-banged-none {text} {p} a e = record { passed = bangs-none text (place p) a.standing.token; test = e; waits = refl }
+banged-none {text} {p} a e = record { passed = bangs-none text (place p) a.standing.token; test = e }
 
 -- a guard in brackets
-module _ {text : List ℕ} {p : Place} {d : ℕ} {codes : List Code} {out wait : List ℕ} (a : Asks text p d codes out wait) (k : p.token.kind ≡ kind.Opening) where
+module _ {text : List ℕ} {p : Place} {d : ℕ} {codes : List Code} {out : List ℕ} {wait : Stack} (a : Asks text p d codes out wait) (k : p.token.kind ≡ kind.Opening) where
   pub too-deep : {x : Refused} {p' : Place} → bracket_ceiling ≤ d → RefusedAt 6 p.token.start p p' →
       Says (plain (operands_at d)) d 0 text p codes out wait (Err x) p' codes out wait
   too-deep l h =
@@ -168,14 +167,14 @@ module _ {text : List ℕ} {p : Place} {d : ℕ} {codes : List Code} {out wait :
       asks-inside = record {
         rooms = a.rooms;
         standing = inside-standing text (place p) k d codes out (place p₁) (v.taken t) l a.standing;
-        waits = omega (arith, v.waits, (v.taken t).signs, a.waits);
+        waits = omega (arith, (v.taken t).signs, a.waits);
         brackets = omega (arith, l);
       }
 
       pub later-inside : (p.token.start < p₁.token.start) × (p.token.start < length text)
       later-inside = ((v.taken t).later, omega (arith, a.standing.token.moves (ap ends k), a.standing.token.inside))
 
-      module _ {r : Result ℕ Refused} {p₂ : Place} {codes₂ : List Code} {out₂ wait₂ : List ℕ}
+      module _ {r : Result ℕ Refused} {p₂ : Place} {codes₂ : List Code} {out₂ : List ℕ} {wait₂ : Stack}
           (h : Says (plain (left_level same (below_of same (operands_at (d + 1))))) (d + 1) 4 text p₁ codes out wait r p₂ codes₂ out₂ wait₂) where
         pub inside-refused-says : {x : Refused} → r ≡ Err x → Says (plain (operands_at d)) d 0 text p codes out wait r p₂ codes₂ out₂ wait₂
         inside-refused-says e =
@@ -199,4 +198,4 @@ module _ {text : List ℕ} {p : Place} {d : ℕ} {codes : List Code} {out wait :
             unfolding same_of implies_of or_of and_of
             closed-says f =
                 says-found refl (bracket-found text (place p) k d codes out (place p₁) (v.taken t) l (h.found n e) (place p₃) (c.taken f))
-                (still-twice (still-twice (still-same v.waits) (h.still n e)) (still-same c.waits)) h.rooms
+                (h.still n e) h.rooms

@@ -18,6 +18,7 @@ use Rattle.notation.specs.declared.refusal.Refused.{Refused}
 use Rattle.notation.specs.declared.place.Place.{Place}
 use Rattle.notation.proofs.Placing.{never_both}
 use Rattle.operands.specs.clauses.Steps.{Part, binding, kind_is, joins, joined_part, place, TokenFits, PastSignSays, JoinedSays}
+use Rattle.operands.specs.declared.waiting.Stack.{Stack}
 use Rattle.operands.proofs.Stepping.{sign-joins, joins-on}
 use Rattle.levels.specs.clauses.Levels.{plain, operands_at, below_of, tighter, part, FoundPart, Rooms, Asks, Still, Says, First, Begun}
 use Rattle.levels.proofs.Joining.{
@@ -35,10 +36,10 @@ use Rattle.levels.proofs.Joining.{
 same-found : (l m : ℕ) (r : Result ℕ Refused) → r ≡ Ok l → r ≡ Ok m → l ≡ m
 same-found l m r e f = cc
 
-module _ {L : ℕ → Level} {d k : ℕ} {text : List ℕ} {p : Place} {codes : List Code} {out wait : List ℕ} {r : Result ℕ Refused} {p' : Place}
-    {codes' : List Code} {out' wait' : List ℕ} where
+module _ {L : ℕ → Level} {d k : ℕ} {text : List ℕ} {p : Place} {codes : List Code} {out : List ℕ} {wait : Stack} {r : Result ℕ Refused} {p' : Place}
+    {codes' : List Code} {out' : List ℕ} {wait' : Stack} where
   -- an operand was found
-  pub says-found : {l : ℕ} → r ≡ Ok l → FoundPart L d k text (place p) codes out (part l p') codes' out' → Still p wait p' wait'
+  pub says-found : {l : ℕ} → r ≡ Ok l → FoundPart L d k text (place p) codes out (part l p') codes' out' → Still wait wait'
       →
       Rooms out' wait' →
       Says L d k text p codes out wait r p' codes' out' wait'
@@ -62,16 +63,14 @@ module _ {L : ℕ → Level} {d k : ℕ} {text : List ℕ} {p : Place} {codes : 
   }
 
 -- what waited before two stretches still waits after both
-pub still-twice : {p : Place} {wait : List ℕ} {p₁ : Place} {wait₁ : List ℕ} {p₂ : Place} {wait₂ : List ℕ} → Still p wait p₁ wait₁ →
-    Still p₁ wait₁ p₂ wait₂ → Still p wait p₂ wait₂
+pub still-twice : {wait wait₁ wait₂ : Stack} → Still wait wait₁ → Still wait₁ wait₂ → Still wait wait₂
 still-twice a b = record {
   waits = b.waits ∙ a.waits;
   others = λ i h. b.others i (omega (arith, a.waits, h)) ∙ a.others i h;
 }
 
--- as many wait, and none was touched
-pub still-same : {p : Place} {wait : List ℕ} {p₁ : Place} → p₁.waiting ≡ p.waiting → Still p wait p₁ wait
-still-same e = record { waits = e; others = λ i h. refl }
+pub still-same : {wait : Stack} → Still wait wait
+still-same = record { waits = refl; others = λ i h. refl }
 
 pub bound : (s : Sign) → binding s ≡ tighter s + 1
 bound same = refl
@@ -119,7 +118,7 @@ module _ {s : Sign} {d : ℕ} {text : List ℕ} {p₀ : Place} {codes₀ : List 
 
   module _ {p₁ : Place} (q : Passed s text p p₁) where
     -- what the operand behind the sign asks
-    pub asks-operand : {wait : List ℕ} → Rooms out wait → p₁.waiting ≤ p₁.signs → d ≤ bracket_ceiling → Asks text p₁ d codes out wait
+    pub asks-operand : {wait : Stack} → Rooms out wait → wait.count ≤ p₁.signs → d ≤ bracket_ceiling → Asks text p₁ d codes out wait
     asks-operand n w b = record {
       rooms = n;
       standing = so-far-standing s (below_of s (operands_at d)) d (tighter s) text (place p₀) codes₀ out₀ so.chain (place p₁) q.sign q.past;
@@ -137,7 +136,7 @@ module _ {s : Sign} {d : ℕ} {text : List ℕ} {p₀ : Place} {codes₀ : List 
           omega (arith, m, so.chain.later, so.chain.standing.token.inside),
         )
 
-    module _ {L : ℕ → Level} {k : ℕ} {wait : List ℕ} {r : Result ℕ Refused} {p₂ : Place} {codes₂ : List Code} {out₂ wait₂ : List ℕ}
+    module _ {L : ℕ → Level} {k : ℕ} {wait : Stack} {r : Result ℕ Refused} {p₂ : Place} {codes₂ : List Code} {out₂ : List ℕ} {wait₂ : Stack}
         (h : Says L d k text p₁ codes out wait r p₂ codes₂ out₂ wait₂) where
       -- the operand behind the sign is refused
       pub operand-refused : {x : Refused} → r ≡ Err x →
@@ -156,19 +155,19 @@ module _ {s : Sign} {d : ℕ} {text : List ℕ} {p₀ : Place} {codes₀ : List 
         )
 
         -- the reader goes on
-        pub grows : {s' : Sign} {x w j : ℕ} {p₃ : Place} {out₃ : List ℕ} → JoinedSays s' x m w p₂ out₂ j p₃ out₃ →
+        pub grows : {s' : Sign} {x j : ℕ} {p₃ : Place} {out₃ : List ℕ} → JoinedSays s' x m p₂ out₂ j p₃ out₃ →
             (p.token.start < p₃.token.start) × (p.token.start < length text) × (p₂.signs ≡ p₃.signs)
-        grows {s'} {x} {w} {j} {p₃} g =
+        grows {s'} {x} {j} {p₃} g =
             let a : p₃.token.start ≡ p₂.token.start = ap (λ (x : Part). x.at.token.start) g.joined in
             let b : p₃.signs ≡ p₂.signs = ap (λ (x : Part). x.at.signs) g.joined in
             let n = nearer in
             (omega (arith, a, n.1, (h.found m e).later), n.2, sym b)
 
     -- the operand behind the sign joins the chain
-    pub joins-chain : {wait : List ℕ} {r : Result ℕ Refused} {p₂ : Place} {codes₂ : List Code} {out₂ wait₂ : List ℕ} →
+    pub joins-chain : {wait : Stack} {r : Result ℕ Refused} {p₂ : Place} {codes₂ : List Code} {out₂ : List ℕ} {wait₂ : Stack} →
         Says (plain (below_of s (operands_at d))) d (tighter s) text p₁ codes out wait r p₂ codes₂ out₂ wait₂ → {m : ℕ} → r ≡ Ok m →
-        {w j : ℕ} {p₃ : Place} {out₃ : List ℕ} → JoinedSays s l m w p₂ out₂ j p₃ out₃ → Sofar s d text p₀ codes₀ out₀ j p₃ codes₂ out₃
-    joins-chain {wait} {r} {p₂} {codes₂} {out₂} h {m} e {w} {j} {p₃} {out₃} g = record {
+        {j : ℕ} {p₃ : Place} {out₃ : List ℕ} → JoinedSays s l m p₂ out₂ j p₃ out₃ → Sofar s d text p₀ codes₀ out₀ j p₃ codes₂ out₃
+    joins-chain {wait} {r} {p₂} {codes₂} {out₂} h {m} e {j} {p₃} {out₃} g = record {
       chain =
           subst (λ (x : Part). SoFar s (below_of s (operands_at d)) d (tighter s) text (place p₀) codes₀ out₀ x codes₂ out₃) (sym g.joined)
           (subst (λ (y : List ℕ). SoFar s (below_of s (operands_at d)) d (tighter s) text (place p₀) codes₀ out₀ (joined_part s (part m p₂)) codes₂ y)
@@ -178,22 +177,22 @@ module _ {s : Sign} {d : ℕ} {text : List ℕ} {p₀ : Place} {codes₀ : List 
     }
 
 -- the loop carries every chain on that was read up to its start
-pub record On (s : Sign) (d : ℕ) (text : List ℕ) (l₁ : ℕ) (p₁ : Place) (codes₁ : List Code) (out₁ wait₁ : List ℕ) (l : ℕ) (p : Place)
-    (codes : List Code) (out wait : List ℕ) : Type 0
+pub record On (s : Sign) (d : ℕ) (text : List ℕ) (l₁ : ℕ) (p₁ : Place) (codes₁ : List Code) (out₁ : List ℕ) (wait₁ : Stack) (l : ℕ) (p : Place)
+    (codes : List Code) (out : List ℕ) (wait : Stack) : Type 0
   where
     pub on : (p₀ : Place) (codes₀ : List Code) (out₀ : List ℕ) → Sofar s d text p₀ codes₀ out₀ l₁ p₁ codes₁ out₁ → Sofar s d text p₀ codes₀ out₀ l p
         codes out
-    pub still : Still p₁ wait₁ p wait
-    pub waits : p₁.waiting ≤ p₁.signs → p.waiting ≤ p.signs
+    pub still : Still wait₁ wait
+    pub waits : wait₁.count ≤ p₁.signs → wait.count ≤ p.signs
     pub rooms : Rooms out₁ wait₁ → Rooms out wait
     pub later : p₁.token.start ≤ p.token.start
 
-pub on-first : {s : Sign} {d : ℕ} {text : List ℕ} {l : ℕ} {p : Place} {codes : List Code} {out wait : List ℕ} →
+pub on-first : {s : Sign} {d : ℕ} {text : List ℕ} {l : ℕ} {p : Place} {codes : List Code} {out : List ℕ} {wait : Stack} →
     On s d text l p codes out wait l p codes out wait
-on-first = record { on = λ p₀ codes₀ out₀ h. h; still = still-same refl; waits = λ h. h; rooms = λ h. h; later = omega arith }
+on-first = record { on = λ p₀ codes₀ out₀ h. h; still = still-same; waits = λ h. h; rooms = λ h. h; later = omega arith }
 
-module _ {s : Sign} {d : ℕ} {text : List ℕ} {l₁ : ℕ} {p₁ : Place} {codes₁ : List Code} {out₁ wait₁ : List ℕ} {l : ℕ} {p : Place} {codes : List Code}
-    {out wait : List ℕ}
+module _ {s : Sign} {d : ℕ} {text : List ℕ} {l₁ : ℕ} {p₁ : Place} {codes₁ : List Code} {out₁ : List ℕ} {wait₁ : Stack} {l : ℕ} {p : Place} {codes : List Code}
+    {out : List ℕ} {wait : Stack}
     (o : On s d text l₁ p₁ codes₁ out₁ wait₁ l p codes out wait) where
   -- a chain whose first operand was read up to the loop's start
   pub carried : (p₀ : Place) (codes₀ : List Code) (out₀ : List ℕ) → First s d text p₀ codes₀ out₀ l₁ p₁ codes₁ out₁ → Sofar s d text p₀ codes₀ out₀ l
@@ -208,23 +207,22 @@ module _ {s : Sign} {d : ℕ} {text : List ℕ} {l₁ : ℕ} {p₁ : Place} {cod
     rooms-here = o.rooms b.rooms
 
 -- what was written leaves the room as it was
-pub joined-room : {s : Sign} {l r w : ℕ} {p : Place} {out : List ℕ} {x : ℕ} {p' : Place} {out' wait : List ℕ} → JoinedSays s l r w p out x p' out' → Rooms
+pub joined-room : {s : Sign} {l r : ℕ} {p : Place} {out : List ℕ} {x : ℕ} {p' : Place} {out' : List ℕ} {wait : Stack} → JoinedSays s l r p out x p' out' → Rooms
     out wait →
     Rooms out' wait
 joined-room g n = record { triplets = ap length g.written ∙ simp length-set n.triplets; literals = n.literals }
 
 -- no more literals wait than signs were seen, behind an operand and behind a sign
-pub waits-on : {L : ℕ → Level} {d k : ℕ} {text : List ℕ} {p : Place} {codes : List Code} {out wait : List ℕ} {r : Result ℕ Refused} {p' : Place}
-    {codes' : List Code} {out' wait' : List ℕ} {l : ℕ} → p.waiting ≤ p.signs →
-    Says L d k text p codes out wait r p' codes' out' wait' → r ≡ Ok l → p'.waiting ≤ p'.signs
+pub waits-on : {L : ℕ → Level} {d k : ℕ} {text : List ℕ} {p : Place} {codes : List Code} {out : List ℕ} {wait : Stack} {r : Result ℕ Refused} {p' : Place}
+    {codes' : List Code} {out' : List ℕ} {wait' : Stack} {l : ℕ} → wait.count ≤ p.signs →
+    Says L d k text p codes out wait r p' codes' out' wait' → r ≡ Ok l → wait'.count ≤ p'.signs
 waits-on {l = l} w h e = omega (arith, w, (h.still l e).waits, (h.found l e).reads.signs)
 
-pub waits-past : {s : Sign} {text : List ℕ} {p p₁ : Place} → p.waiting ≤ p.signs → p₁.waiting ≡ p.waiting → Passed s text p p₁ → p₁.waiting
-    ≤ p₁.signs
-waits-past w e q = omega (arith, w, e, q.past.0.signs)
+pub waits-past : {s : Sign} {text : List ℕ} {p p₁ : Place} {n : ℕ} → n ≤ p.signs → Passed s text p p₁ → n ≤ p₁.signs
+waits-past w q = omega (arith, w, q.past.0.signs)
 
-module _ (s : Sign) {d : ℕ} {text : List ℕ} {p₀ : Place} {codes₀ : List Code} {out₀ wait₀ : List ℕ} {r : Result ℕ Refused} {p : Place}
-    {codes : List Code} {out wait : List ℕ} {l : ℕ}
+module _ (s : Sign) {d : ℕ} {text : List ℕ} {p₀ : Place} {codes₀ : List Code} {out₀ : List ℕ} {wait₀ : Stack} {r : Result ℕ Refused} {p : Place}
+    {codes : List Code} {out : List ℕ} {wait : Stack} {l : ℕ}
     (f : Says (plain (below_of s (operands_at d))) d (tighter s) text p₀ codes₀ out₀ wait₀ r p codes out wait) (e : r ≡ Ok l) where
   -- the first operand, where the sign of the chain does not follow: the chain is that operand
   pub left_alone : kind_is s p.token.kind ≡ false →
@@ -232,7 +230,7 @@ module _ (s : Sign) {d : ℕ} {text : List ℕ} {p₀ : Place} {codes₀ : List 
   left_alone k = says-found refl (chain-read (opened {s = s} {d = d} {p = p₀} {p₁ = p} (f.found l e)) k) (f.still l e) f.rooms
 
   -- where it follows, there is a chain to go on with, and less text is left
-  pub begins : p₀.waiting ≤ p₀.signs → d ≤ bracket_ceiling → Begun s d text l p codes out wait
+  pub begins : wait₀.count ≤ p₀.signs → d ≤ bracket_ceiling → Begun s d text l p codes out wait
   begins w b = record {
     from = p₀;
     from_codes = codes₀;
@@ -249,20 +247,20 @@ module _ (s : Sign) {d : ℕ} {text : List ℕ} {p₀ : Place} {codes₀ : List 
       ((f.found l e).later, omega (arith, m, (f.found l e).standing.token.inside))
 
 -- one turn of the loop: the sign, an operand, and both joined
-module _ {s : Sign} {d : ℕ} {text : List ℕ} {l₁ : ℕ} {p₁ : Place} {codes₁ : List Code} {out₁ wait₁ : List ℕ} {l : ℕ} {p : Place} {codes : List Code}
-    {out wait : List ℕ}
-    (o : On s d text l₁ p₁ codes₁ out₁ wait₁ l p codes out wait) {p₂ : Place} (q : Passed s text p p₂) (w : p₂.waiting ≡ p.waiting)
-    {r : Result ℕ Refused} {p₃ : Place} {codes₃ : List Code} {out₃ wait₃ : List ℕ}
+module _ {s : Sign} {d : ℕ} {text : List ℕ} {l₁ : ℕ} {p₁ : Place} {codes₁ : List Code} {out₁ : List ℕ} {wait₁ : Stack} {l : ℕ} {p : Place} {codes : List Code}
+    {out : List ℕ} {wait : Stack}
+    (o : On s d text l₁ p₁ codes₁ out₁ wait₁ l p codes out wait) {p₂ : Place} (q : Passed s text p p₂)
+    {r : Result ℕ Refused} {p₃ : Place} {codes₃ : List Code} {out₃ : List ℕ} {wait₃ : Stack}
     (h : Says (plain (below_of s (operands_at d))) d (tighter s) text p₂ codes out wait r p₃ codes₃ out₃ wait₃) {m : ℕ} (e : r ≡ Ok m)
-    {j : ℕ} {p₄ : Place} {out₄ : List ℕ} (g : JoinedSays s l m p₃.waiting p₃ out₃ j p₄ out₄) where
+    {j : ℕ} {p₄ : Place} {out₄ : List ℕ} (g : JoinedSays s l m p₃ out₃ j p₄ out₄) where
   pub on-more : On s d text l₁ p₁ codes₁ out₁ wait₁ j p₄ codes₃ out₄ wait₃
   on-more =
       let a : p₄.token.start ≡ p₃.token.start = ap (λ (x : Part). x.at.token.start) g.joined in
       let b : p₄.signs ≡ p₃.signs = ap (λ (x : Part). x.at.signs) g.joined in
       record {
         on = λ p₀ codes₀ out₀ f. joins-chain (o.on p₀ codes₀ out₀ f) q h e g;
-        still = still-twice (still-twice (still-twice o.still (still-same w)) (h.still m e)) (still-same g.waits);
-        waits = λ n. omega (arith, b, g.waits, waits-on (waits-past (o.waits n) w q) h e);
+        still = still-twice o.still (h.still m e);
+        waits = λ n. omega (arith, b, waits-on (waits-past (o.waits n) q) h e);
         rooms = λ n. joined-room g h.rooms;
         later = omega (arith, o.later, q.past.0.later, (h.found m e).later, a);
       }

@@ -9,14 +9,14 @@ ghost use Rattle.notation.specs.Grammar.{left_level, right_level};
 ghost use Rattle.operands.specs.clauses.Steps.{bangs};
 ghost use Rattle.levels.specs.clauses.Levels.{plain, operands_at, below_of, tighter, Asks, Says, Begun, ChainSays};
 
-use notation::ceilings::{BRACKETS, CONNECTIVES, FLAGS, TRIPLETS_ROOM};
+use notation::ceilings::{BRACKETS, FLAGS, TRIPLETS_ROOM};
 use notation::codes::Code;
 use notation::place::{Connective, Kind, Place};
 use notation::refusal::Refused;
 use notation::triplets::flipped;
+use operands::waiting::Stack;
 use operands::{
-    advanced, bang_follows, closed, code_operand, join_last, joined, past_sign, set_aside,
-    sign_follows, truth_operand,
+    advanced, bang_follows, closed, code_operand, joined, past_sign, sign_follows, truth_operand,
 };
 
 // A guard: operands joined by `=`, which groups to the left.
@@ -27,7 +27,7 @@ pub fn same(
     brackets: usize,
     codes: &mut [Code; FLAGS],
     out: &mut [u16; TRIPLETS_ROOM],
-    wait: &mut [u16; CONNECTIVES],
+    wait: &mut Stack,
 ) -> Result<u16, Refused>
     requires { Asks text.now at.old brackets codes.old out.old wait.old }
     ensures { Says (plain (left_level same (below_of same (operands_at brackets)))) brackets 4
@@ -52,14 +52,14 @@ fn implies(
     brackets: usize,
     codes: &mut [Code; FLAGS],
     out: &mut [u16; TRIPLETS_ROOM],
-    wait: &mut [u16; CONNECTIVES],
+    wait: &mut Stack,
 ) -> Result<u16, Refused>
     requires { Asks text.now at.old brackets codes.old out.old wait.old }
     ensures { Says (plain (right_level implies (below_of implies (operands_at brackets)))) brackets 3
         text.now at.old codes.old out.old wait.old result
         at.new codes.new out.new wait.new }
 {
-    let base = at.waiting;
+    let base = wait.count;
     let first = either(text, at, brackets, codes, out, wait);
     let Ok(left) = first else {
         return first;
@@ -70,15 +70,16 @@ fn implies(
         let Ok(()) = moved else {
             return Err(Refused);
         };
-        set_aside(at, wait, last);
+        wait.push(last);
         let next = either(text, at, brackets, codes, out, wait);
         let Ok(right) = next else {
             return next;
         };
         last = right;
     }
-    while base < at.waiting {
-        last = join_last(out, at, wait, last);
+    while base < wait.count {
+        let left = wait.pop();
+        last = joined(out, at, Connective::Implies, left, last);
     }
     Ok(last)
 }
@@ -91,7 +92,7 @@ fn either(
     brackets: usize,
     codes: &mut [Code; FLAGS],
     out: &mut [u16; TRIPLETS_ROOM],
-    wait: &mut [u16; CONNECTIVES],
+    wait: &mut Stack,
 ) -> Result<u16, Refused>
     requires { Asks text.now at.old brackets codes.old out.old wait.old }
     ensures { Says (plain (left_level or (below_of or (operands_at brackets)))) brackets 2
@@ -116,7 +117,7 @@ fn both(
     brackets: usize,
     codes: &mut [Code; FLAGS],
     out: &mut [u16; TRIPLETS_ROOM],
-    wait: &mut [u16; CONNECTIVES],
+    wait: &mut Stack,
 ) -> Result<u16, Refused>
     requires { Asks text.now at.old brackets codes.old out.old wait.old }
     ensures { Says (plain (left_level and (below_of and (operands_at brackets)))) brackets 1
@@ -141,7 +142,7 @@ fn below(
     brackets: usize,
     codes: &mut [Code; FLAGS],
     out: &mut [u16; TRIPLETS_ROOM],
-    wait: &mut [u16; CONNECTIVES],
+    wait: &mut Stack,
     sign: Connective,
 ) -> Result<u16, Refused>
     requires { Asks text.now at.old brackets codes.old out.old wait.old }
@@ -165,7 +166,7 @@ fn left_chain(
     brackets: usize,
     codes: &mut [Code; FLAGS],
     out: &mut [u16; TRIPLETS_ROOM],
-    wait: &mut [u16; CONNECTIVES],
+    wait: &mut Stack,
     sign: Connective,
     first: u16,
 ) -> Result<u16, Refused>
@@ -197,7 +198,7 @@ fn operand(
     brackets: usize,
     codes: &mut [Code; FLAGS],
     out: &mut [u16; TRIPLETS_ROOM],
-    wait: &mut [u16; CONNECTIVES],
+    wait: &mut Stack,
 ) -> Result<u16, Refused>
     requires { Asks text.now at.old brackets codes.old out.old wait.old }
     ensures { Says (plain (operands_at brackets)) brackets 0
@@ -229,7 +230,7 @@ fn plain(
     brackets: usize,
     codes: &mut [Code; FLAGS],
     out: &mut [u16; TRIPLETS_ROOM],
-    wait: &mut [u16; CONNECTIVES],
+    wait: &mut Stack,
 ) -> Result<u16, Refused>
     requires asks { Asks text.now at.old brackets codes.old out.old wait.old }
     requires at_value { bangs at.old.token.kind ≡ false }
@@ -253,7 +254,7 @@ fn bracket(
     brackets: usize,
     codes: &mut [Code; FLAGS],
     out: &mut [u16; TRIPLETS_ROOM],
-    wait: &mut [u16; CONNECTIVES],
+    wait: &mut Stack,
 ) -> Result<u16, Refused>
     requires asks { Asks text.now at.old brackets codes.old out.old wait.old }
     requires at_value { at.old.token.kind ≡ Kind.Opening }

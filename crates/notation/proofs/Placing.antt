@@ -19,11 +19,11 @@ never_both {v = v} {e = e} {r = r} f g = let z : ◌≡◌ {A = ℕ} 0 1 = cc in
 
 -- the token that was stored is the next
 pub taken-stored : {text : List ℕ} {p : Place} {from : ℕ} {t : Token} → NextToken text from t →
-    CutSays text from p (Ok tt) (record { token = t; flags = p.flags; signs = p.signs; count = p.count; waiting = p.waiting; refusal = p.refusal })
+    CutSays text from p (Ok tt) (record { token = t; flags = p.flags; signs = p.signs; count = p.count; refusal = p.refusal })
 taken-stored n = record {
   taken = λ _. n;
   refused = λ _ e. never_both refl e;
-  behind = record { flags = refl; signs = refl; count = refl; waits = refl };
+  behind = record { flags = refl; signs = refl; count = refl };
 }
 
 -- the refusal that was stored is that of the next token

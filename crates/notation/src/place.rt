@@ -33,15 +33,13 @@ pub struct Token {
     pub next: usize,
 }
 
-// The token ahead; how many flags, signs and triplets lie behind; how many literals wait for what their `>` leads to; and the refusal, where
-// a function answered that the reader was refused.
+// The token ahead; how many flags, signs and triplets lie behind; and the refusal, where a function answered that the reader was refused.
 #[derive(Clone, Copy)]
 pub struct Place {
     pub token: Token,
     pub flags: usize,
     pub signs: usize,
     pub count: usize,
-    pub waiting: usize,
     pub refusal: Refusal,
 }
 
@@ -64,7 +62,6 @@ impl Place {
             flags,
             signs: 0,
             count: 0,
-            waiting: 0,
             refusal,
         }
     }

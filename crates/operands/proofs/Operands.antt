@@ -96,7 +96,7 @@ module _ {text : List ℕ} {at : At} {codes codes' : List Code} {n : ℕ} {g : G
 
 -- the reader stands as at p, with n flags
 abbrev pub flags_stored : ℕ → Place → Place
-flags_stored n p = record { token = p.token; flags = n; signs = p.signs; count = p.count; waiting = p.waiting; refusal = p.refusal }
+flags_stored n p = record { token = p.token; flags = n; signs = p.signs; count = p.count; refusal = p.refusal }
 
 -- the operand of one token, from where its token was passed
 pub atom-says : {text : List ℕ} {p : Place} {codes codes' : List Code} {n : ℕ} {g : Guard} {l : ℕ} → OneToken text (place p) codes codes' n g l →
@@ -106,7 +106,6 @@ atom-says {text} {p} {codes} {codes'} {n} {g} {l} o {p'} {r} a = record {
       let q = a.found m e in
       subst (λ (k : ℕ). Atom text (place p) codes k (place p') codes') (sym q.1) (atom-found o (place p') q.0);
   refused = λ x e d. o.walked d ∙ a.refused x e after d (flags_in text codes' n) p.signs;
-  waits = a.waits;
 }
 
 -- the token ahead, told by its kind
@@ -239,7 +238,6 @@ pub too-many-says : {text : List ℕ} {p : Place} {codes : List Code} {p' : Plac
 too-many-says h c = record {
   found = λ l e. never_both e refl;
   refused = λ _ _ d. h d ∙ ap (λ (f : Refusal). refused f.number f.place) (sym c.refusal);
-  waits = c.behind.waits;
 }
 
 -- at a closing bracket the guard in brackets is an operand
@@ -297,7 +295,6 @@ module _ {text : List ℕ} {p p' : Place} where
           parsed = λ g u. closing-parsed p.token.kind text p.token.start p.token.next g u k ∙ ap (found g u) v.tokens;
         };
     refused = λ x e d u m. closing-walked p.token.kind text p.token.start p.token.next d u m k ∙ a.refused x e after d u m;
-    waits = a.waits;
   }
 
   pub closed-refused : {x : Refused} → joins p.token.kind ≡ false → closes p.token.kind ≡ false → RefusedAt 5 p.token.start p p' →
@@ -306,7 +303,6 @@ module _ {text : List ℕ} {p p' : Place} where
     taken = λ e. never_both e refl;
     refused = λ _ _ d u m.
         no-closing p.token.kind text p.token.start p.token.next d u m j k ∙ ap (λ (f : Refusal). refused f.number f.place) (sym c.refusal);
-    waits = c.behind.waits;
   }
 
 -- no operand starts with the end, a sign or a closing bracket

@@ -126,7 +126,6 @@ advanced-says {text} {p} fits on c = record {
         count = c.behind.count;
       };
   refused = λ x e w d u m. ap (walk w d u m) (after-it text p on) ∙ c.refused x e w d u m;
-  waits = c.behind.waits;
 }
 
 -- one sign more is counted
@@ -136,7 +135,7 @@ counted p = record {
   flags = p.flags;
   signs = p.signs + 1;
   count = p.count;
-  waiting = p.waiting;
+ 
   refusal = p.refusal;
 }
 
@@ -162,7 +161,6 @@ module _ (text : List ℕ) (p : Place) (fits : TokenFits text p.token) (j : join
         refused = λ x e d u.
             sign-passed p.token.kind text p.token.start p.token.next d u p.signs j l
             ∙ ap (walk operand d u (p.signs + 1)) (after-it text p on) ∙ c.refused x e operand d u (p.signs + 1);
-        waits = c.behind.waits;
       }
 
   -- past the ceiling it is refused
@@ -173,7 +171,6 @@ module _ (text : List ℕ) (p : Place) (fits : TokenFits text p.token) (j : join
     refused = λ _ _ d u.
         sign-refused p.token.kind text p.token.start p.token.next d u p.signs j l
         ∙ ap (λ (f : Refusal). refused f.number f.place) (sym c.refusal);
-    waits = c.behind.waits;
   }
 
 same_self : (s : Sign) → same_sign s s ≡ true

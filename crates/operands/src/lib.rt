@@ -2,13 +2,15 @@
 // over the lent place where the reader stands.
 #![tactic(auto)]
 
+pub mod waiting;
+
 ghost use Rattle.std.specs.Prelude.{◌≡◌, true, false, ◌+◌, ◌-◌, ◌*◌, ◌≤◌, ◌<◌, length, get_or};
 ghost use Rattle.notation.specs.clauses.Cut.{ends, sign_of};
 ghost use Rattle.notation.specs.Ceilings.{connective_ceiling, flag_ceiling};
 ghost use Rattle.notation.specs.Tokens.{implies};
 ghost use Rattle.notation.specs.Triplets.{literal_ceiling};
 ghost use Rattle.operands.specs.clauses.Steps.{kind_is, joins, bangs, closes, place, TokenFits, Standing, AdvancedSays, PastSignSays};
-ghost use Rattle.operands.specs.clauses.Steps.{PastTokenSays, AtomSays, TruthSays, ClosedSays, JoinedSays, SetAside};
+ghost use Rattle.operands.specs.clauses.Steps.{PastTokenSays, AtomSays, TruthSays, ClosedSays, JoinedSays};
 
 use notation::ceilings::{CONNECTIVES, FLAGS, TRIPLETS_ROOM};
 use notation::codes::{Code, place_of};
@@ -72,43 +74,13 @@ pub fn joined(
     requires out_len { length out.old ≡ 3 * connective_ceiling }
     requires at_bound { at.old.count < connective_ceiling }
     requires left_le_literal_ceiling { (left ≤ literal_ceiling) × (right ≤ literal_ceiling) }
-    ensures { JoinedSays (sign_of sign) left right at.old.waiting
+    ensures { JoinedSays (sign_of sign) left right
         at.old out.old result at.new out.new }
 {
     let count = at.count;
     triplets::write(out, count, sign, left, right);
     at.count = count + 1;
     triplets::literal_of(sign, count)
-}
-
-// The literal before a `>` waits for what the sign leads to.
-pub fn set_aside(at: &mut Place, wait: &mut [u16; CONNECTIVES], literal: u16)
-    requires wait_len { length wait.old ≡ connective_ceiling }
-    requires at_bound { at.old.waiting < connective_ceiling }
-    ensures { SetAside literal at.old wait.old at.new wait.new }
-{
-    wait[at.waiting] = literal;
-    at.waiting += 1;
-}
-
-// The last literal that waits is joined with what its `>` leads to.
-pub fn join_last(
-    out: &mut [u16; TRIPLETS_ROOM],
-    at: &mut Place,
-    wait: &[u16; CONNECTIVES],
-    right: u16,
-) -> u16
-    requires out_len { length out.old ≡ 3 * connective_ceiling }
-    requires nonzero { (0 < at.old.waiting) × (at.old.waiting ≤ connective_ceiling) }
-    requires at_bound { at.old.count < connective_ceiling }
-    requires at_bound_2 { (get_or wait.now (at.old.waiting - 1) 0 ≤ literal_ceiling) × (right ≤ literal_ceiling) }
-    ensures { JoinedSays implies
-        (get_or wait.now (at.old.waiting - 1) 0) right (at.old.waiting - 1)
-        at.old out.old result at.new out.new }
-{
-    at.waiting -= 1;
-    let left = wait[at.waiting];
-    joined(out, at, Connective::Implies, left, right)
 }
 
 // A literal, once the reader is past its token.

@@ -26,6 +26,7 @@ use Rattle.notation.specs.declared.place.Kind.TheVariants as kind
 use Rattle.notation.specs.declared.place.Place.{Place}
 use Rattle.notation.specs.declared.refusal.Refused.{Refused}
 use Rattle.operands.specs.clauses.Steps.{joins, place}
+use Rattle.operands.specs.declared.waiting.Stack.{Stack}
 use Rattle.levels.specs.clauses.Levels.{plain, operands_at, below_of, part, FoundPart, Says}
 use Rattle.reading.specs.Service.{refused_with, guard_with}
 use Rattle.reading.specs.clauses.Parsing.{ended_as, ParseSays}
@@ -116,7 +117,8 @@ module _ {text : List ℕ} {from n : ℕ} {p p₁ : Place} {s : Result Unit Refu
         says-refusal text from (flags_in text codes n) h p₁.refusal.number p₁.refusal.place
         (c.refused _ e operand 0 (flags_in text codes n) 0) r q codes' out'
 
-    module _ (e : s ≡ Ok tt) {out wait : List ℕ} {a : Result ℕ Refused} {p₂ : Place} {codes₂ : List Code} {out₂ wait₂ : List ℕ}
+    module _ (e : s ≡ Ok tt) {out : List ℕ} {wait : Stack} {a : Result ℕ Refused} {p₂ : Place} {codes₂ : List Code} {out₂ : List ℕ}
+        {wait₂ : Stack}
         (v : Says (plain (left_level words.same (below_of words.same (operands_at 0)))) 0 4 text p₁ codes out wait a p₂ codes₂ out₂ wait₂) where
       flags-first : p₁.flags ≡ n
       flags-first = c.behind.flags

@@ -7,11 +7,12 @@ ghost use Rattle.levels.specs.clauses.Levels.{part};
 ghost use Rattle.reading.specs.clauses.Parsing.{ParseSays, ended_as};
 
 use levels::same;
-use notation::ceilings::{CONNECTIVES, FLAGS, TEXT, TRIPLETS_ROOM};
+use notation::ceilings::{FLAGS, TEXT, TRIPLETS_ROOM};
 use notation::codes::Code;
 use notation::place::{Kind, Place};
 use notation::refusal::Refusal;
 use notation::tokens::token_at;
+use operands::waiting::Stack;
 
 // The numbers of a guard's flags and triplets, and its root literal.
 #[derive(Clone, Copy)]
@@ -71,7 +72,7 @@ pub fn parse_from(
     let Ok(()) = first else {
         return Parsed::Refused(at.refusal);
     };
-    let mut wait = [0u16; CONNECTIVES];
+    let mut wait = Stack::none();
     let whole = same(text, &mut at, 0, codes, out, &mut wait);
     let Ok(root) = whole else {
         return Parsed::Refused(at.refusal);

@@ -10,7 +10,7 @@ use Rattle.operands.specs.clauses.Steps.{place}
 use Rattle.levels.specs.clauses.Levels.{operands_at, below_of}
 use Rattle.levels.proofs.Nesting.{right_is}
 use Rattle.levels.proofs.Turning.{says-found, says-refused, passed, asks-sign, sign-refused, nearer, operand-refused, waits-on}
-use Rattle.levels.proofs.Waiting.{rising-opened, rising-refused, up_first, passed-aside, asks-next}
+use Rattle.levels.proofs.Waiting.{rising-opened, rising-refused, up_first, asks-next}
 use Rattle.levels.proofs.Waiting.{up_more, down-first, down-more, chain-ends, asks-last, all-joined}
 use mathlib.Core.Path.{refl, sym, ◌∙◌}
 use Rattle.levels.proofs.Turning.{says-found, says-refused, still-twice, carried, here, rooms-here, passed, asks-sign}
@@ -20,6 +20,9 @@ use Rattle.levels.proofs.Nested.{banged-none, bang-refused, bang-more, behind-sa
 use mathlib.Core.Path.{sym, ap, ◌∙◌}
 use Rattle.operands.proofs.Operands.{no-opener}
 use Rattle.levels.proofs.Nested.{atom-level, misplaced}
+use Prim.Native.Nat.{ℕ}
+use mathlib.Core.List.{List}
+use lib.ListN.{get_or}
 use Rattle.levels.proofs.+levels.Goals as goal
 
 pub both-returns-then-not-sign_follows : goal.both-returns-then-not-sign_follows
@@ -107,64 +110,70 @@ pub implies-either-next-requires : goal.implies-either-next-requires
 implies-either-next-requires t c =
     let r = c.loop-at.invariant.up c.args.at.now c.args.codes.now c.args.out.now (c.either-first.ensures.found _ c.in-Ok.is) in
     let q = (passed (sym c.sign_follows.ensures ∙ c.loop-at-test.true) c.past_sign-moved.ensures c.in-Ok-moved.is) in
-    let qa = passed-aside q c.set_aside.ensures in
-    let n = nearer (rising-opened r) qa in (
+    let n = nearer (rising-opened r) q in (
       omega (arith, (c.either-first.ensures.found _ c.in-Ok.is).later, c.loop-at.invariant.later, n.1, n.2),
       asks-next c.loop-at.invariant q
-          c.past_sign-moved.ensures.waits c.set_aside.ensures r c.requires.brackets,
+          c.push.ensures r c.requires.brackets,
     )
 
 pub implies-returns-in_default-next : goal.implies-returns-in_default-next
 implies-returns-in_default-next t c =
     let r = c.loop-at.invariant.up c.args.at.now c.args.codes.now c.args.out.now (c.either-first.ensures.found _ c.in-Ok.is) in
     let q = (passed (sym c.sign_follows.ensures ∙ c.loop-at-test.true) c.past_sign-moved.ensures c.in-Ok-moved.is) in
-    let qa = passed-aside q c.set_aside.ensures in
-    says-refused c.in_default-next.is (rising-refused r (operand-refused (rising-opened r) qa c.either-next.ensures c.in_default-next.is))
+    says-refused c.in_default-next.is (rising-refused r (operand-refused (rising-opened r) q c.either-next.ensures c.in_default-next.is))
     c.either-next.ensures.rooms
 
 pub implies-loop-at-smaller : goal.implies-loop-at-smaller
 implies-loop-at-smaller t c =
     let r = c.loop-at.invariant.up c.args.at.now c.args.codes.now c.args.out.now (c.either-first.ensures.found _ c.in-Ok.is) in
     let q = (passed (sym c.sign_follows.ensures ∙ c.loop-at-test.true) c.past_sign-moved.ensures c.in-Ok-moved.is) in
-    let qa = passed-aside q c.set_aside.ensures in
-    let n = nearer (rising-opened r) qa in
+    let n = nearer (rising-opened r) q in
     omega (arith, n.1, n.2, (c.either-next.ensures.found _ c.in-Ok-next.is).later)
 
 pub implies-loop-at-preserved : goal.implies-loop-at-preserved
 implies-loop-at-preserved t c =
     let q = (passed (sym c.sign_follows.ensures ∙ c.loop-at-test.true) c.past_sign-moved.ensures c.in-Ok-moved.is) in
-    up_more c.loop-at.invariant q c.past_sign-moved.ensures.waits c.set_aside.ensures c.either-next.ensures c.in-Ok-next.is
+    up_more c.loop-at.invariant q c.push.ensures c.either-next.ensures c.in-Ok-next.is
 
-pub implies-loop-at-2-init : goal.implies-loop-at-2-init
-implies-loop-at-2-init t c =
+pub implies-loop-wait-init : goal.implies-loop-wait-init
+implies-loop-wait-init t c =
     let r = c.loop-at.invariant.up c.args.at.now c.args.codes.now c.args.out.now (c.either-first.ensures.found _ c.in-Ok.is) in
     down-first c.loop-at.invariant r
 
-pub implies-join_last-last-requires : goal.implies-join_last-last-requires
-implies-join_last-last-requires t c =
-    let r = c.loop-at.invariant.up c.args.at.now c.args.codes.now c.args.out.now (c.either-first.ensures.found _ c.in-Ok.is) in
-    let f = c.loop-at-2.invariant.down c.args.at.now c.args.codes.now c.args.out.now (chain-ends r (sym c.sign_follows.ensures ∙ c.loop-at-test.false)) in
-    let a = asks-last f c.loop-at-2-test.true in
+pub implies-pop-left-requires : goal.implies-pop-left-requires
+implies-pop-left-requires t c =
     record {
-      out_len = c.loop-at-2.invariant.rooms.triplets;
-      nonzero = (omega (arith, c.loop-at-2-test.true), c.loop-at-2.invariant.most);
-      at_bound = a.0;
-      at_bound_2 = a.1;
+      table = c.loop-wait.invariant.rooms.literals;
+      some = (omega (arith, c.loop-wait-test.true), c.loop-wait.invariant.most);
     }
 
-pub implies-loop-at-2-preserved : goal.implies-loop-at-2-preserved
-implies-loop-at-2-preserved t c =
-    down-more c.loop-at-2.invariant c.loop-at-2-test.true c.join_last-last.ensures
+pub implies-joined-last-requires : goal.implies-joined-last-requires
+implies-joined-last-requires t c =
+    let r = c.loop-at.invariant.up c.args.at.now c.args.codes.now c.args.out.now (c.either-first.ensures.found _ c.in-Ok.is) in
+    let f = c.loop-wait.invariant.down c.args.at.now c.args.codes.now c.args.out.now (chain-ends r (sym c.sign_follows.ensures ∙ c.loop-at-test.false)) in
+    let a = asks-last f c.loop-wait-test.true c.pop-left.ensures in
+    record {
+      out_len = c.loop-wait.invariant.rooms.triplets;
+      at_bound = a.0;
+      left_le_literal_ceiling = a.1;
+    }
+
+pub implies-loop-wait-preserved : goal.implies-loop-wait-preserved
+implies-loop-wait-preserved t c =
+    down-more c.loop-wait.invariant c.loop-wait-test.true c.pop-left.ensures c.joined-last.ensures
 
 pub implies-returns : goal.implies-returns
 implies-returns t c =
     let r = c.loop-at.invariant.up c.args.at.now c.args.codes.now c.args.out.now (c.either-first.ensures.found _ c.in-Ok.is) in
-    let f = c.loop-at-2.invariant.down c.args.at.now c.args.codes.now c.args.out.now (chain-ends r (sym c.sign_follows.ensures ∙ c.loop-at-test.false)) in
+    let f = c.loop-wait.invariant.down c.args.at.now c.args.codes.now c.args.out.now (chain-ends r (sym c.sign_follows.ensures ∙ c.loop-at-test.false)) in
     let s = c.either-first.ensures.still _ c.in-Ok.is in
-    let e : c.loop-at-2.at.waiting ≡ c.args.at.now.waiting = omega (arith, c.loop-at-2-test.false, c.loop-at-2.invariant.least) in
+    let e : c.loop-wait.wait.count ≡ c.args.wait.now.count = omega (arith, c.loop-wait-test.false, c.loop-wait.invariant.least) in
     says-found refl (right_is tokens.implies (below_of tokens.implies (operands_at c.args.brackets)) c.args.brackets 3 c.args.text.now
     (place c.args.at.now) c.args.codes.now c.args.out.now _ _ _ (all-joined f e))
-    (record { waits = e; others = λ i h. c.loop-at.invariant.others i h ∙ s.others i h }) c.loop-at-2.invariant.rooms
+    (record {
+      waits = e;
+      others = λ i h. ap (λ (ls : List ℕ). get_or ls i 0) c.loop-wait.invariant.same ∙ c.loop-at.invariant.others i h ∙ s.others i h;
+    }) c.loop-wait.invariant.rooms
 
 pub left_chain-past_sign-moved-requires : goal.left_chain-past_sign-moved-requires
 left_chain-past_sign-moved-requires t c =
@@ -187,7 +196,7 @@ left_chain-below-next-requires t c =
     let n = nearer so q in (
       omega (arith, c.loop-sign.invariant.later, n.1, n.2),
       asks-operand so q (rooms-here c.loop-sign.invariant c.requires)
-          (waits-past (c.loop-sign.invariant.waits c.requires.waits) c.past_sign-moved.ensures.waits q) c.requires.brackets,
+          (waits-past (c.loop-sign.invariant.waits c.requires.waits) q) c.requires.brackets,
     )
 
 pub left_chain-returns-in_default-next : goal.left_chain-returns-in_default-next
@@ -216,7 +225,7 @@ left_chain-loop-sign-smaller t c =
 pub left_chain-loop-sign-preserved : goal.left_chain-loop-sign-preserved
 left_chain-loop-sign-preserved t c =
     on-more c.loop-sign.invariant (passed (sym c.sign_follows.ensures ∙ c.loop-sign-test.true) c.past_sign-moved.ensures c.in-Ok.is)
-    c.past_sign-moved.ensures.waits c.below-next.ensures c.in-Ok-next.is c.joined-left.ensures
+    c.below-next.ensures c.in-Ok-next.is c.joined-left.ensures
 
 pub left_chain-returns : goal.left_chain-returns
 left_chain-returns t c =

@@ -53,12 +53,12 @@ invariant-implies-loop-at l = Up tokens.implies l.brackets l.text l.base l.initi
 abbrev pub decreases-implies-loop-at : goal.decreases-implies-loop-at
 decreases-implies-loop-at l = length l.text - l.at.token.start
 
-abbrev pub invariant-implies-loop-at-2 : goal.invariant-implies-loop-at-2
-invariant-implies-loop-at-2 l = Down tokens.implies l.brackets l.text l.base l.initial.last l.initial.at l.codes l.initial.out l.wait
-    l.last l.at l.out
+abbrev pub invariant-implies-loop-wait : goal.invariant-implies-loop-wait
+invariant-implies-loop-wait l = Down tokens.implies l.brackets l.text l.base l.initial.last l.initial.at l.codes l.initial.out l.initial.wait
+    l.last l.at l.out l.wait
 
-abbrev pub decreases-implies-loop-at-2 : goal.decreases-implies-loop-at-2
-decreases-implies-loop-at-2 l = l.at.waiting
+abbrev pub decreases-implies-loop-wait : goal.decreases-implies-loop-wait
+decreases-implies-loop-wait l = l.wait.count
 
 abbrev pub invariant-left_chain-loop-sign : goal.invariant-left_chain-loop-sign
 invariant-left_chain-loop-sign l = On

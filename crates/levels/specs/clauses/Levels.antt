@@ -12,6 +12,7 @@ use Rattle.notation.specs.declared.codes.Code.{Code}
 use Rattle.notation.specs.declared.refusal.Refused.{Refused}
 use Rattle.notation.specs.declared.place.Place.{Place}
 use Rattle.operands.specs.clauses.Steps.{At, Part, binding, place, Standing}
+use Rattle.operands.specs.declared.waiting.Stack.{Stack}
 
 -- the level L, with enough room for further operands, reads the guard g from the tokens ts, d brackets being open
 pub record Reads (L : ℕ → Level) (d k : ℕ) (u : List Flag) (m : ℕ) (ts : Tokens) (g : Guard) (u' : List Flag) (m' : ℕ) (ts' : Tokens) : Type 0
@@ -64,29 +65,29 @@ abbrev pub part : ℕ → Place → Part
 part l p = record { literal = l; at = place p }
 
 -- the lent tables have their rooms
-pub record Rooms (out wait : List ℕ) : Type 0 where
+pub record Rooms (out : List ℕ) (wait : Stack) : Type 0 where
   pub triplets : length out ≡ 3 * connective_ceiling
-  pub literals : length wait ≡ connective_ceiling
+  pub literals : length wait.literals ≡ connective_ceiling
 
 -- what a level asks, d brackets being open: no more literals wait than signs were seen
-pub record Asks (text : List ℕ) (p : Place) (d : ℕ) (codes : List Code) (out wait : List ℕ) : Type 0 where
+pub record Asks (text : List ℕ) (p : Place) (d : ℕ) (codes : List Code) (out : List ℕ) (wait : Stack) : Type 0 where
   pub rooms : Rooms out wait
   pub standing : Standing text codes (place p)
-  pub waits : p.waiting ≤ p.signs
+  pub waits : wait.count ≤ p.signs
   pub brackets : d ≤ bracket_ceiling
 
 -- the literals that waited still wait
-pub record Still (p : Place) (wait : List ℕ) (p' : Place) (wait' : List ℕ) : Type 0 where
-  pub waits : p'.waiting ≡ p.waiting
-  pub others : (i : ℕ) → i < p.waiting → get_or wait' i 0 ≡ get_or wait i 0
+pub record Still (wait wait' : Stack) : Type 0 where
+  pub waits : wait'.count ≡ wait.count
+  pub others : (i : ℕ) → i < wait.count → get_or wait'.literals i 0 ≡ get_or wait.literals i 0
 
 -- what a level answers
-pub record Says (L : ℕ → Level) (d k : ℕ) (text : List ℕ) (p : Place) (codes : List Code) (out wait : List ℕ) (r : Result ℕ Refused) (p' : Place)
-    (codes' : List Code) (out' wait' : List ℕ) : Type 0 where
+pub record Says (L : ℕ → Level) (d k : ℕ) (text : List ℕ) (p : Place) (codes : List Code) (out : List ℕ) (wait : Stack) (r : Result ℕ Refused) (p' : Place)
+    (codes' : List Code) (out' : List ℕ) (wait' : Stack) : Type 0 where
   pub found : (l : ℕ) → r ≡ Ok l → FoundPart L d k text (place p) codes out (part l p') codes' out'
   pub refused : (x : Refused) → r ≡ Err x →
       walk operand d (flags_in text codes p.flags) p.signs (ahead text p.token) ≡ refused p'.refusal.number p'.refusal.place
-  pub still : (l : ℕ) → r ≡ Ok l → Still p wait p' wait'
+  pub still : (l : ℕ) → r ≡ Ok l → Still wait wait'
   pub rooms : Rooms out' wait'
 
 -- the first operand of a chain that the sign s joins was read from p₀, and the reader stands at p after it
@@ -95,18 +96,18 @@ First s d text p₀ codes₀ out₀ l p codes out = FoundPart (plain (below_of s
     codes out
 
 -- what the rest of a chain asks: a first operand was read from some place
-pub record Begun (s : Sign) (d : ℕ) (text : List ℕ) (l : ℕ) (p : Place) (codes : List Code) (out wait : List ℕ) : Type 0 where
+pub record Begun (s : Sign) (d : ℕ) (text : List ℕ) (l : ℕ) (p : Place) (codes : List Code) (out : List ℕ) (wait : Stack) : Type 0 where
   pub from : Place
   pub from_codes : List Code
   pub from_out : List ℕ
   pub first : First s d text from from_codes from_out l p codes out
   pub rooms : Rooms out wait
-  pub waits : p.waiting ≤ p.signs
+  pub waits : wait.count ≤ p.signs
   pub brackets : d ≤ bracket_ceiling
 
 -- what it answers: wherever the first operand was read from, the chain is read from there
-abbrev pub ChainSays : Sign → ℕ → List ℕ → ℕ → Place → List Code → List ℕ → List ℕ → Result ℕ Refused → Place → List Code
-    → List ℕ → List ℕ → Type 0
+abbrev pub ChainSays : Sign → ℕ → List ℕ → ℕ → Place → List Code → List ℕ → Stack → Result ℕ Refused → Place → List Code
+    → List ℕ → Stack → Type 0
 ChainSays s d text l p codes out wait r p' codes' out' wait' =
-    (p₀ : Place) (codes₀ : List Code) (out₀ wait₀ : List ℕ) → First s d text p₀ codes₀ out₀ l p codes out → Still p₀ wait₀ p wait →
+    (p₀ : Place) (codes₀ : List Code) (out₀ : List ℕ) (wait₀ : Stack) → First s d text p₀ codes₀ out₀ l p codes out → Still wait₀ wait →
     Says (plain (left_level s (below_of s (operands_at d)))) d (tighter s + 1) text p₀ codes₀ out₀ wait₀ r p' codes' out' wait'

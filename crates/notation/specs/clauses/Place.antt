@@ -13,16 +13,14 @@ before from n = record {
   flags = n;
   signs = 0;
   count = 0;
-  waiting = 0;
   refusal = record { number = 0; place = 0 };
 }
 
--- what lies behind, and what waits, is as it was
+-- what lies behind is as it was
 pub record SameBehind (p p' : Place) : Type 0 where
   pub flags : p'.flags ≡ p.flags
   pub signs : p'.signs ≡ p.signs
   pub count : p'.count ≡ p.count
-  pub waits : p'.waiting ≡ p.waiting
 
 -- the place holds this refusal now
 pub record RefusedAt (n s : ℕ) (p p' : Place) : Type 0 where

@@ -1,5 +1,5 @@
 -- What a step of the reader over its lent place promises, and what an operand of one token does.
-use Rattle.std.specs.Prelude.{ℕ, suc, ◌+◌, ◌≤◌, ◌<◌, ◌≡◌, Bool, true, false, List, [], length, get_or, Result, Ok, Err}
+use Rattle.std.specs.Prelude.{ℕ, suc, ◌+◌, ◌-◌, ◌≤◌, ◌<◌, ◌≡◌, Bool, true, false, List, [], length, get_or, Result, Ok, Err}
 use Rattle.notation.specs.Ceilings.{flag_ceiling, connective_ceiling}
 use Rattle.notation.specs.Tokens as tokens
 use Rattle.notation.specs.Tokens.{Sign}
@@ -16,6 +16,7 @@ use Rattle.notation.specs.declared.place.Kind.{Kind}
 use Rattle.notation.specs.declared.place.Kind.TheVariants as kind
 use Rattle.notation.specs.declared.place.Token.{Token}
 use Rattle.notation.specs.declared.place.Place.{Place}
+use Rattle.operands.specs.declared.waiting.Stack.{Stack}
 
 -- how tight a sign binds, from tightest to loosest
 abbrev pub binding : Sign → ℕ
@@ -107,20 +108,17 @@ pub record Advanced (text : List ℕ) (at : At) (m : ℕ) (to : At) : Type 0 whe
 pub record AdvancedSays (text : List ℕ) (p : Place) (r : Result Unit Refused) (p' : Place) : Type 0 where
   pub taken : r ≡ Ok tt → Advanced text (place p) p.signs (place p')
   pub refused : (e : Refused) → r ≡ Err e → FaultyHere (past (ahead text p.token)) p'.refusal
-  pub waits : p'.waiting ≡ p.waiting
 
 -- past a sign: one more is counted, or the walk is refused
 pub record PastSignSays (text : List ℕ) (p : Place) (r : Result Unit Refused) (p' : Place) : Type 0 where
   pub taken : r ≡ Ok tt → Advanced text (place p) (p.signs + 1) (place p') × (p.signs < connective_ceiling)
   pub refused : (e : Refused) → r ≡ Err e → (d : ℕ) (u : List Flag) →
       walk after d u p.signs (ahead text p.token) ≡ refused p'.refusal.number p'.refusal.place
-  pub waits : p'.waiting ≡ p.waiting
 
 -- the literal l past a token, or what follows is faulty
 pub record PastTokenSays (text : List ℕ) (p : Place) (l : ℕ) (r : Result ℕ Refused) (p' : Place) : Type 0 where
   pub found : (m : ℕ) → r ≡ Ok m → Advanced text (place p) p.signs (place p') × (m ≡ l)
   pub refused : (e : Refused) → r ≡ Err e → FaultyHere (past (ahead text p.token)) p'.refusal
-  pub waits : p'.waiting ≡ p.waiting
 
 -- an operand that is no bracket was read: a guard with no connective, wherever it stands
 pub record Atom (text : List ℕ) (at : At) (codes : List Code) (l : ℕ) (to : At) (codes' : List Code) : Type 0 where
@@ -143,7 +141,6 @@ pub record AtomSays (text : List ℕ) (p : Place) (codes : List Code) (r : Resul
   pub found : (l : ℕ) → r ≡ Ok l → Atom text (place p) codes l (place p') codes'
   pub refused : (e : Refused) → r ≡ Err e → (d : ℕ) →
       walk operand d (flags_in text codes p.flags) p.signs (ahead text p.token) ≡ refused p'.refusal.number p'.refusal.place
-  pub waits : p'.waiting ≡ p.waiting
 
 -- `#0` or `#1`, whatever the table holds
 abbrev pub TruthSays : List ℕ → Place → Result ℕ Refused → Place → Type 0
@@ -160,7 +157,6 @@ pub record ClosedSays (text : List ℕ) (p : Place) (r : Result Unit Refused) (p
   pub taken : r ≡ Ok tt → Closed text (place p) (place p')
   pub refused : (e : Refused) → r ≡ Err e → (d : ℕ) (u : List Flag) (m : ℕ) →
       walk after (suc d) u m (ahead text p.token) ≡ refused p'.refusal.number p'.refusal.place
-  pub waits : p'.waiting ≡ p.waiting
 
 -- two operands joined: the reader has written one triplet more
 abbrev pub joined_part : Sign → Part → Part
@@ -169,16 +165,20 @@ joined_part s right = record {
   at = record { token = right.at.token; flags = right.at.flags; signs = right.at.signs; count = right.at.count + 1 };
 }
 
--- the literals l and r joined, after which w literals wait
-pub record JoinedSays (s : Sign) (l r w : ℕ) (p : Place) (out : List ℕ) (x : ℕ) (p' : Place) (out' : List ℕ) : Type 0 where
+-- the literals l and r joined
+pub record JoinedSays (s : Sign) (l r : ℕ) (p : Place) (out : List ℕ) (x : ℕ) (p' : Place) (out' : List ℕ) : Type 0 where
   pub joined : ◌≡◌ {A = Part} (record { literal = x; at = place p' }) (joined_part s (record { literal = r; at = place p }))
   pub written : out' ≡ triplet_at out p.count (triplet_of s l r)
-  pub waits : p'.waiting ≡ w
 
--- one literal more waits, and the reader stands where it stood
-pub record SetAside (l : ℕ) (p : Place) (wait : List ℕ) (p' : Place) (wait' : List ℕ) : Type 0 where
-  pub stands : place p' ≡ place p
-  pub waits : p'.waiting ≡ p.waiting + 1
-  pub last : get_or wait' p.waiting 0 ≡ l
-  pub others : (i : ℕ) → i < p.waiting → get_or wait' i 0 ≡ get_or wait i 0
-  pub table : length wait' ≡ connective_ceiling
+-- one literal more waits, on top of the others
+pub record Pushed (l : ℕ) (wait wait' : Stack) : Type 0 where
+  pub waits : wait'.count ≡ wait.count + 1
+  pub last : get_or wait'.literals wait.count 0 ≡ l
+  pub others : (i : ℕ) → i < wait.count → get_or wait'.literals i 0 ≡ get_or wait.literals i 0
+  pub table : length wait'.literals ≡ connective_ceiling
+
+-- the literal on top was taken, and the others wait
+pub record Popped (wait : Stack) (l : ℕ) (wait' : Stack) : Type 0 where
+  pub last : l ≡ get_or wait.literals (wait.count - 1) 0
+  pub waits : wait'.count ≡ wait.count - 1
+  pub others : wait'.literals ≡ wait.literals
