@@ -5,6 +5,7 @@ use mathlib.Core.Bool.{Bool, true, false}
 use mathlib.Core.List.{List}
 use lib.ListN.{length}
 use lib.Dec.{ltb}
+use Rattle.notation.specs.declared.codes.Code.{Code}
 use Rattle.notation.specs.Reading.{refusal, reading}
 use Rattle.notation.specs.declared.refusal.Refusal.{Refusal}
 use Rattle.reading.specs.declared.parse.Guard as counted
@@ -21,7 +22,7 @@ module _ (text : List ℕ) (state : ℕ) where
   unfolding evaluated
   evaluates-refusal f e = rw e refl
 
-  module _ (x : counted.Guard) (codes xs : List ℕ) (f : Found text (reading text) x codes xs) where
+  module _ (x : counted.Guard) (codes : List Code) (xs : List ℕ) (f : Found text (reading text) x codes xs) where
     pub evaluates-no-state : ltb state (2 ^ x.flags) ≡ false → Err (record { number = 9; place = 0 }) ≡ evaluated (reading text) state
     unfolding evaluated
     evaluates-no-state h =

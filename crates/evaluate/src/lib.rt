@@ -5,7 +5,8 @@ ghost use Rattle.std.specs.Prelude.{◌≡◌};
 ghost use Rattle.notation.specs.Reading.{reading};
 ghost use Rattle.evaluate.specs.Evaluated.{evaluated};
 
-use notation::ceilings::{CODES_ROOM, TRIPLETS_ROOM};
+use notation::ceilings::{FLAGS, TRIPLETS_ROOM};
+use notation::codes::Code;
 use notation::refusal::Refusal;
 use reading::parse::parse;
 use truth::states::is_state;
@@ -15,7 +16,7 @@ use truth::values::root_value;
 pub fn evaluate(text: &[u8], state: u64) -> Result<bool, Refusal>
     ensures { result ≡ evaluated (reading text.now) state }
 {
-    let mut codes = [0usize; CODES_ROOM];
+    let mut codes = [Code::NONE; FLAGS];
     let mut triplets = [0u16; TRIPLETS_ROOM];
     let guard = parse(text, &mut codes, &mut triplets)?;
     if !is_state(state, guard.flags) {

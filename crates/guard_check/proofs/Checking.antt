@@ -4,6 +4,7 @@ use mathlib.Core.Path.{◌≡◌, refl, sym, subst, ◌∙◌}
 use mathlib.Core.List.{List}
 use lib.ListN.{length}
 use borrow.Author.Tests.{le-leb, lt-leb}
+use Rattle.notation.specs.declared.codes.Code.{Code}
 use Rattle.notation.specs.Ceilings.{text_ceiling, connective_ceiling}
 use Rattle.notation.specs.Walk.{Flag}
 use Rattle.notation.specs.Guard.{Guard}
@@ -45,7 +46,8 @@ pub too-deep : (text : List ℕ) (depth : ℕ) → length text ≤ text_ceiling 
 too-deep text depth h d = says text depth (refusal 2 0) _ (asks-deep text depth h d) refl
 
 -- a guard in the tables is one that can be decided
-abbrev pub from-tables : (text codes out : List ℕ) (x : counted.Guard) → Found text (reading text) x codes out → length out ≡ 3 * connective_ceiling
+abbrev pub from-tables : (text : List ℕ) (codes : List Code) (out : List ℕ) (x : counted.Guard) → Found text (reading text) x codes out →
+    length out ≡ 3 * connective_ceiling
     → FromGuard out x.count x.flags x.root
 from-tables text codes out x f l =
     record { guard = f.tree; begins = read-begins text x codes out f; room = (read-triplets text x codes out f l).count }
@@ -60,7 +62,7 @@ module _ (text : List ℕ) (depth : ℕ) (h : length text ≤ text_ceiling) (d :
   guard-too g u e v s = says text depth (guard g u) (Ok v) (asks-text text depth h d ∙ e) s
 
   -- what is decided of the tables is the verdict on the text
-  pub tables-say : (codes out : List ℕ) (x : counted.Guard) (f : Found text (reading text) x codes out) (l : length out ≡ 3 * connective_ceiling)
+  pub tables-say : (codes : List Code) (out : List ℕ) (x : counted.Guard) (f : Found text (reading text) x codes out) (l : length out ≡ 3 * connective_ceiling)
       (v : Verdict) → Decided out x.count x.flags x.root depth v → CheckSays text depth (Ok v)
   tables-say codes out x f l v a =
       let s : Checked x.flags f.tree depth v =

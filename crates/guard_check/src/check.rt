@@ -2,7 +2,8 @@
 ghost use Rattle.guard_check.specs.Check.{CheckSays};
 
 use crate::answer::answer;
-use notation::ceilings::{CODES_ROOM, TEXT, TRIPLETS_ROOM};
+use notation::ceilings::{FLAGS, TEXT, TRIPLETS_ROOM};
+use notation::codes::Code;
 use notation::refusal::Refusal;
 use reading::parse::parse;
 use saturation::verdict::Verdict;
@@ -26,7 +27,7 @@ pub fn check(text: &[u8], depth: u64) -> Result<Verdict, Refusal>
             place: 0,
         });
     }
-    let mut codes = [0usize; CODES_ROOM];
+    let mut codes = [Code::NONE; FLAGS];
     let mut triplets = [0u16; TRIPLETS_ROOM];
     let guard = parse(text, &mut codes, &mut triplets)?;
     let verdict = answer(&triplets, guard.count, guard.flags, guard.root, depth);

@@ -14,6 +14,7 @@ use Rattle.notation.specs.Triplets.{triplet_of}
 use Rattle.notation.specs.clauses.Writing.{triplet_at}
 use Rattle.notation.specs.clauses.Cut.{ahead}
 use Rattle.notation.specs.clauses.Codes.{flags_in, InText}
+use Rattle.notation.specs.declared.codes.Code.{Code}
 use Rattle.operands.specs.clauses.Steps.{At, Part, binding, kind_is, joined_part, Standing, Advanced}
 use Rattle.levels.specs.clauses.Levels.{plain, Reads, Writes, FoundPart}
 use Rattle.notation.specs.declared.refusal.Refusal.{Refusal}
@@ -22,7 +23,7 @@ use Rattle.operands.proofs.Stepping.{next-kind}
 use Rattle.levels.proofs.Leveling.{Chain, chain_first, chain_more, chain-done, right-one, right-two, past-sign}
 
 -- the flags, the signs and the tokens where the reader stands
-abbrev pub flags_at : List ℕ → List ℕ → At → List Flag
+abbrev pub flags_at : List ℕ → List Code → At → List Flag
 flags_at text codes at = flags_in text codes at.flags
 
 -- past a sign that is within the ceiling
@@ -33,9 +34,9 @@ PassedSign text at to = Advanced text at (at.signs + 1) to × (at.signs < connec
 pub sign-ahead : (s : Sign) (text : List ℕ) (at : At) (t : Bool) → kind_is s at.token.kind ≡ t → sign_next s (ahead text at.token) ≡ t
 sign-ahead s text at t e = next-kind s at.token.kind text at.token.start at.token.next ∙ e
 
-module _ (s : Sign) (next : Level) (d k : ℕ) (text : List ℕ) (at : At) (codes₀ out₀ : List ℕ) where
+module _ (s : Sign) (next : Level) (d k : ℕ) (text : List ℕ) (at : At) (codes₀ : List Code) (out₀ : List ℕ) where
   -- what has been read of a chain joined by s, which starts where the reader stood at first
-  pub record SoFar (left : Part) (codes out : List ℕ) : Type 0 where
+  pub record SoFar (left : Part) (codes : List Code) (out : List ℕ) : Type 0 where
     pub guard : Guard
     pub chain : Chain s next d k (flags_at text codes₀ at) at.signs (ahead text at.token) guard (flags_at text codes left.at) left.at.signs
         (ahead text left.at.token)
@@ -43,7 +44,7 @@ module _ (s : Sign) (next : Level) (d k : ℕ) (text : List ℕ) (at : At) (code
     pub standing : Standing text codes left.at
     pub later : at.token.start < left.at.token.start
 
-  pub so-far-first : {left : Part} {codes out : List ℕ} → FoundPart (plain next) d k text at codes₀ out₀ left codes out → SoFar left codes out
+  pub so-far-first : {left : Part} {codes : List Code} {out : List ℕ} → FoundPart (plain next) d k text at codes₀ out₀ left codes out → SoFar left codes out
   so-far-first p = record {
     guard = p.guard;
     chain = chain_first s next d k _ _ _ p.reads;
@@ -52,7 +53,7 @@ module _ (s : Sign) (next : Level) (d k : ℕ) (text : List ℕ) (at : At) (code
     later = p.later;
   }
 
-  module _ {left : Part} {codes out : List ℕ} (l : SoFar left codes out) where
+  module _ {left : Part} {codes : List Code} {out : List ℕ} (l : SoFar left codes out) where
     -- the sign is refused
     pub so-far-no-sign : (f : Refusal) → ((e : ℕ) (u : List Flag) → walk after e u left.at.signs (ahead text left.at.token) ≡ refused
         f.number f.place) →
@@ -89,7 +90,7 @@ module _ (s : Sign) (next : Level) (d k : ℕ) (text : List ℕ) (at : At) (code
       }
 
       -- what is read behind the sign, said of the tokens past it
-      behind : {L : ℕ → Level} {j : ℕ} {right : Part} {codes' out' : List ℕ} → (p : FoundPart L d j text to codes out right codes' out') →
+      behind : {L : ℕ → Level} {j : ℕ} {right : Part} {codes' : List Code} {out' : List ℕ} → (p : FoundPart L d j text to codes out right codes' out') →
           Reads L d j (flags_at text codes left.at) (left.at.signs + 1) (past (ahead text left.at.token))
           p.guard (flags_at text codes' right.at) right.at.signs (ahead text right.at.token)
       behind {L} {j} {right} {codes'} p =
@@ -101,12 +102,12 @@ module _ (s : Sign) (next : Level) (d k : ℕ) (text : List ℕ) (at : At) (code
           (ahead text right.at.token)) (sym past-it.0.tokens) p.reads))
 
       -- there is room for one triplet more
-      pub fewer : {L : ℕ → Level} {j : ℕ} {right : Part} {codes' out' : List ℕ} → FoundPart L d j text to codes out right codes' out' →
+      pub fewer : {L : ℕ → Level} {j : ℕ} {right : Part} {codes' : List Code} {out' : List ℕ} → FoundPart L d j text to codes out right codes' out' →
           right.at.count < connective_ceiling
       fewer p = omega (arith, l.standing.count, past-it.0.count, past-it.0.signs, p.writes.count, p.reads.signs, p.standing.signs)
 
       -- the operand after the sign joins the chain
-      pub so_far_more : {right : Part} {codes' out' : List ℕ} → FoundPart (plain next) d k text to codes out right codes' out' →
+      pub so_far_more : {right : Part} {codes' : List Code} {out' : List ℕ} → FoundPart (plain next) d k text to codes out right codes' out' →
           length out' ≡ 3 * connective_ceiling →
           SoFar (joined_part s right) codes' (triplet_at out' right.at.count (triplet_of s left.literal right.literal))
       so_far_more {right} {codes'} {out'} p room = record {
@@ -136,7 +137,7 @@ module _ (s : Sign) (next : Level) (d k : ℕ) (text : List ℕ) (at : At) (code
       later = l.later;
     }
 
-module _ (s : Sign) (next : Level) (d k : ℕ) (text : List ℕ) (at : At) (codes₀ out₀ : List ℕ) {left : Part} {codes out : List ℕ}
+module _ (s : Sign) (next : Level) (d k : ℕ) (text : List ℕ) (at : At) (codes₀ : List Code) (out₀ : List ℕ) {left : Part} {codes : List Code} {out : List ℕ}
     (p : FoundPart (plain next) d k text at codes₀ out₀ left codes out) (b : binding s ≡ k + 1) where
   -- of a sign that groups to the right: a single operand
   pub right-alone : kind_is s left.at.token.kind ≡ false → FoundPart (to_the_right s next) d (k + 1) text at codes₀ out₀ left codes out
@@ -150,7 +151,7 @@ module _ (s : Sign) (next : Level) (d k : ℕ) (text : List ℕ) (at : At) (code
 
   -- an operand, the sign, and all that follows
   pub right-joined : (to : At) → kind_is s left.at.token.kind ≡ true → (q : PassedSign text left.at to) →
-      {right : Part} {codes' out' : List ℕ} → FoundPart (to_the_right s next) d (k + 1) text to codes out right codes' out' →
+      {right : Part} {codes' : List Code} {out' : List ℕ} → FoundPart (to_the_right s next) d (k + 1) text to codes out right codes' out' →
       length out' ≡ 3 * connective_ceiling →
       FoundPart (to_the_right s next) d (k + 1) text at codes₀ out₀ (joined_part s right) codes'
       (triplet_at out' right.at.count (triplet_of s left.literal right.literal))

@@ -16,6 +16,7 @@ use Rattle.notation.specs.Triplets.{Triplet, literal, triplets, numbers, negatio
 use Rattle.notation.specs.clauses.Writing.{signed}
 use Rattle.notation.specs.clauses.Cut.{ahead_as, ahead, ends, FaultyHere}
 use Rattle.notation.specs.clauses.Codes.{flags_in, InText}
+use Rattle.notation.specs.declared.codes.Code.{Code}
 use Rattle.operands.specs.clauses.Steps.{At, Part, bangs, TokenFits, Standing, Advanced, Closed}
 use Rattle.levels.specs.clauses.Levels.{plain, FoundPart, operands_at}
 use Rattle.notation.specs.declared.refusal.Refusal.{Refusal}
@@ -24,7 +25,8 @@ use Rattle.notation.specs.declared.place.Kind.TheVariants as kind
 use Rattle.operands.proofs.Operands.{no-tighter}
 
 -- a level that groups to the right, with all the room that there can be
-pub right_is : (s : Sign) (next : Level) (d k : ℕ) (text : List ℕ) (at : At) (codes out : List ℕ) (p : Part) (codes' out' : List ℕ) →
+pub right_is : (s : Sign) (next : Level) (d k : ℕ) (text : List ℕ) (at : At) (codes : List Code) (out : List ℕ) (p : Part) (codes' : List Code)
+    (out' : List ℕ) →
     FoundPart (to_the_right s next) d k text at codes out p codes' out' → FoundPart (plain (right_level s next)) d k text at codes out p codes' out'
 unfolding right_level
 right_is s next d k text at codes out p codes' out' f = record {
@@ -68,7 +70,7 @@ module _ (text : List ℕ) (at : At) (k : at.token.kind ≡ kind.Opening) (d : �
       let less : bracket_ceiling - d ≡ suc (bracket_ceiling - (d + 1)) = omega arith in
       ap (operands_at d u) opening-is ∙ ap (λ (n : ℕ). follow (in_brackets n u (past (ahead text at.token))) (λ g v us. closed g v us)) less
 
-  module _ (codes out : List ℕ) (inside : At) (a : Advanced text at at.signs inside) (h : d < bracket_ceiling) where
+  module _ (codes : List Code) (out : List ℕ) (inside : At) (a : Advanced text at at.signs inside) (h : d < bracket_ceiling) where
     -- what stands inside, said of the tokens past the bracket
     into : walk operand d (flags_in text codes at.flags) at.signs (ahead text at.token)
         ≡ walk operand (d + 1) (flags_in text codes inside.flags) inside.signs (ahead text inside.token)
@@ -94,7 +96,8 @@ module _ (text : List ℕ) (at : At) (k : at.token.kind ≡ kind.Opening) (d : �
       count = omega (arith, a.count, a.signs, st.count);
     }
 
-    module _ {part : Part} {codes' out' : List ℕ} (p : FoundPart (plain (same_of (operands_at (d + 1)))) (d + 1) 4 text inside codes out part codes'
+    module _ {part : Part} {codes' : List Code} {out' : List ℕ} (p : FoundPart (plain (same_of (operands_at (d + 1))))
+        (d + 1) 4 text inside codes out part codes'
         out') where
       -- no closing bracket follows
       pub never-closed : (f : Refusal) → ((e : ℕ) (u : List Flag) (m : ℕ) → walk after (suc e) u m (ahead text part.at.token) ≡ refused
@@ -255,7 +258,7 @@ module _ (text : List ℕ) (at here : At) (odd : ℕ) (b : Bangs text at here od
     later = omega (arith, b.later, a.later);
   }
 
-module _ (text : List ℕ) (at here : At) (odd : ℕ) (b : Bangs text at here odd) (codes : List ℕ) where
+module _ (text : List ℕ) (at here : At) (odd : ℕ) (b : Bangs text at here odd) (codes : List Code) where
   here-walked : (d : ℕ) → walk operand d (flags_in text codes at.flags) at.signs (ahead text at.token) ≡ walk operand d
       (flags_in text codes here.flags) here.signs (ahead text here.token)
   here-walked d =
@@ -280,7 +283,7 @@ module _ (text : List ℕ) (at here : At) (odd : ℕ) (b : Bangs text at here od
   behind-refused d f e = here-walked d ∙ e
 
   -- the operand behind them, turned
-  pub behind-found : (d : ℕ) (out : List ℕ) {p : Part} {codes' out' : List ℕ} → FoundPart (plain (operands_at d)) d 0 text here codes out p
+  pub behind-found : (d : ℕ) (out : List ℕ) {p : Part} {codes' : List Code} {out' : List ℕ} → FoundPart (plain (operands_at d)) d 0 text here codes out p
       codes' out' →
       FoundPart (plain (operands_at d)) d 0 text at codes out (record { literal = signed p.literal odd; at = p.at }) codes' out'
   behind-found d out {p} {codes'} {out'} r =

@@ -2,39 +2,40 @@
 // text that is left.
 #![tactic(auto)]
 
-ghost use Rattle.std.specs.Prelude.{◌≡◌, false, ◌+◌, get_or};
+ghost use Rattle.std.specs.Prelude.{◌≡◌, false, ◌+◌};
 ghost use Rattle.notation.specs.Tokens.{and, or, implies, same};
 ghost use Rattle.notation.specs.clauses.Cut.{sign_of};
 ghost use Rattle.notation.specs.Grammar.{left_level, right_level};
-ghost use Rattle.notation.specs.clauses.Place.{kind_of};
 ghost use Rattle.operands.specs.clauses.Steps.{bangs};
 ghost use Rattle.levels.specs.clauses.Levels.{plain, operands_at, below_of, tighter, Asks, Says, Begun, ChainSays};
 
-use notation::ceilings::{BRACKETS, CODES_ROOM, CONNECTIVES, TRIPLETS_ROOM};
-use notation::place::{Connective, KIND, Kind, PLACE, Step, WAITING, kind_of};
+use notation::ceilings::{BRACKETS, FLAGS, TRIPLETS_ROOM};
+use notation::codes::Code;
+use notation::place::{Connective, Kind, Place};
+use notation::refusal::Refused;
 use notation::triplets::flipped;
+use operands::waiting::Stack;
 use operands::{
-    Answer, advanced, bang_follows, closed, code_operand, join_last, joined, past_sign, refused,
-    set_aside, sign_follows, truth_operand,
+    advanced, bang_follows, closed, code_operand, joined, past_sign, sign_follows, truth_operand,
 };
 
 // A guard: operands joined by `=`, which groups to the left.
-#[cycle(below_both_bracket_either_implies_left_chain_operand_plain_same)]
+#[cycle(levels)]
 pub fn same(
     text: &[u8],
-    at: &mut [usize; PLACE],
+    at: &mut Place,
     brackets: usize,
-    codes: &mut [usize; CODES_ROOM],
+    codes: &mut [Code; FLAGS],
     out: &mut [u16; TRIPLETS_ROOM],
-    wait: &mut [u16; CONNECTIVES],
-) -> Answer
+    wait: &mut Stack,
+) -> Result<u16, Refused>
     requires { Asks text.now at.old brackets codes.old out.old wait.old }
     ensures { Says (plain (left_level same (below_of same (operands_at brackets)))) brackets 4
         text.now at.old codes.old out.old wait.old result
         at.new codes.new out.new wait.new }
 {
     let first = implies(text, at, brackets, codes, out, wait);
-    let Answer::Found(left) = first else {
+    let Ok(left) = first else {
         return first;
     };
     if !sign_follows(at, Connective::Same) {
@@ -44,61 +45,62 @@ pub fn same(
 }
 
 // Operands joined by `>`, which groups to the right: those before a sign wait, and are joined from the right when the chain ends.
-#[cycle(below_both_bracket_either_implies_left_chain_operand_plain_same)]
+#[cycle(levels)]
 fn implies(
     text: &[u8],
-    at: &mut [usize; PLACE],
+    at: &mut Place,
     brackets: usize,
-    codes: &mut [usize; CODES_ROOM],
+    codes: &mut [Code; FLAGS],
     out: &mut [u16; TRIPLETS_ROOM],
-    wait: &mut [u16; CONNECTIVES],
-) -> Answer
+    wait: &mut Stack,
+) -> Result<u16, Refused>
     requires { Asks text.now at.old brackets codes.old out.old wait.old }
     ensures { Says (plain (right_level implies (below_of implies (operands_at brackets)))) brackets 3
         text.now at.old codes.old out.old wait.old result
         at.new codes.new out.new wait.new }
 {
-    let base = at[WAITING];
+    let base = wait.count;
     let first = either(text, at, brackets, codes, out, wait);
-    let Answer::Found(left) = first else {
+    let Ok(left) = first else {
         return first;
     };
     let mut last = left;
     while sign_follows(at, Connective::Implies) {
         let moved = past_sign(text, at);
-        let Step::Taken = moved else {
-            return Answer::Refused;
+        let Ok(()) = moved else {
+            return Err(Refused);
         };
-        set_aside(at, wait, last);
+        wait.push(last);
         let next = either(text, at, brackets, codes, out, wait);
-        let Answer::Found(right) = next else {
+        let Ok(right) = next else {
             return next;
         };
         last = right;
     }
-    while base < at[WAITING] {
-        last = join_last(out, at, wait, last);
+    while base < wait.count {
+        let left = wait.pop();
+        last = joined(out, at, Connective::Implies, left, last);
     }
-    Answer::Found(last)
+    Ok(last)
 }
 
 // Operands joined by `|`, which groups to the left.
-#[cycle(below_both_bracket_either_implies_left_chain_operand_plain_same)]
+#[cycle(levels)]
 fn either(
     text: &[u8],
-    at: &mut [usize; PLACE],
+    at: &mut Place,
     brackets: usize,
-    codes: &mut [usize; CODES_ROOM],
+    codes: &mut [Code; FLAGS],
     out: &mut [u16; TRIPLETS_ROOM],
-    wait: &mut [u16; CONNECTIVES],
-) -> Answer
+    wait: &mut Stack,
+) -> Result<u16, Refused>
     requires { Asks text.now at.old brackets codes.old out.old wait.old }
     ensures { Says (plain (left_level or (below_of or (operands_at brackets)))) brackets 2
         text.now at.old codes.old out.old wait.old result
         at.new codes.new out.new wait.new }
 {
     let first = both(text, at, brackets, codes, out, wait);
-    let Answer::Found(left) = first else {
+    let Ok(left) = first else {
         return first;
     };
     if !sign_follows(at, Connective::Or) {
@@ -108,22 +110,22 @@ fn either(
 }
 
 // Operands joined by `&`, which groups to the left.
-#[cycle(below_both_bracket_either_implies_left_chain_operand_plain_same)]
+#[cycle(levels)]
 fn both(
     text: &[u8],
-    at: &mut [usize; PLACE],
+    at: &mut Place,
     brackets: usize,
-    codes: &mut [usize; CODES_ROOM],
+    codes: &mut [Code; FLAGS],
     out: &mut [u16; TRIPLETS_ROOM],
-    wait: &mut [u16; CONNECTIVES],
-) -> Answer
+    wait: &mut Stack,
+) -> Result<u16, Refused>
     requires { Asks text.now at.old brackets codes.old out.old wait.old }
     ensures { Says (plain (left_level and (below_of and (operands_at brackets)))) brackets 1
         text.now at.old codes.old out.old wait.old result
         at.new codes.new out.new wait.new }
 {
     let first = operand(text, at, brackets, codes, out, wait);
-    let Answer::Found(left) = first else {
+    let Ok(left) = first else {
         return first;
     };
     if !sign_follows(at, Connective::And) {
@@ -133,16 +135,16 @@ fn both(
 }
 
 // The level whose operands a sign joins.
-#[cycle(below_both_bracket_either_implies_left_chain_operand_plain_same)]
+#[cycle(levels)]
 fn below(
     text: &[u8],
-    at: &mut [usize; PLACE],
+    at: &mut Place,
     brackets: usize,
-    codes: &mut [usize; CODES_ROOM],
+    codes: &mut [Code; FLAGS],
     out: &mut [u16; TRIPLETS_ROOM],
-    wait: &mut [u16; CONNECTIVES],
+    wait: &mut Stack,
     sign: Connective,
-) -> Answer
+) -> Result<u16, Refused>
     requires { Asks text.now at.old brackets codes.old out.old wait.old }
     ensures { Says (plain (below_of (sign_of sign) (operands_at brackets))) brackets (tighter (sign_of sign))
         text.now at.old codes.old out.old wait.old result
@@ -157,17 +159,17 @@ fn below(
 }
 
 // The further operands of a chain that a sign joins to the left.
-#[cycle(below_both_bracket_either_implies_left_chain_operand_plain_same)]
+#[cycle(levels)]
 fn left_chain(
     text: &[u8],
-    at: &mut [usize; PLACE],
+    at: &mut Place,
     brackets: usize,
-    codes: &mut [usize; CODES_ROOM],
+    codes: &mut [Code; FLAGS],
     out: &mut [u16; TRIPLETS_ROOM],
-    wait: &mut [u16; CONNECTIVES],
+    wait: &mut Stack,
     sign: Connective,
     first: u16,
-) -> Answer
+) -> Result<u16, Refused>
     requires { Begun (sign_of sign) brackets text.now first at.old codes.old out.old wait.old }
     ensures { ChainSays (sign_of sign) brackets
         text.now first at.old codes.old out.old wait.old result
@@ -176,28 +178,28 @@ fn left_chain(
     let mut left = first;
     while sign_follows(at, sign) {
         let moved = past_sign(text, at);
-        let Step::Taken = moved else {
-            return Answer::Refused;
+        let Ok(()) = moved else {
+            return Err(Refused);
         };
         let next = below(text, at, brackets, codes, out, wait, sign);
-        let Answer::Found(right) = next else {
+        let Ok(right) = next else {
             return next;
         };
         left = joined(out, at, sign, left, right);
     }
-    Answer::Found(left)
+    Ok(left)
 }
 
 // An operand with any number of `!` before it.
-#[cycle(below_both_bracket_either_implies_left_chain_operand_plain_same)]
+#[cycle(levels)]
 fn operand(
     text: &[u8],
-    at: &mut [usize; PLACE],
+    at: &mut Place,
     brackets: usize,
-    codes: &mut [usize; CODES_ROOM],
+    codes: &mut [Code; FLAGS],
     out: &mut [u16; TRIPLETS_ROOM],
-    wait: &mut [u16; CONNECTIVES],
-) -> Answer
+    wait: &mut Stack,
+) -> Result<u16, Refused>
     requires { Asks text.now at.old brackets codes.old out.old wait.old }
     ensures { Says (plain (operands_at brackets)) brackets 0
         text.now at.old codes.old out.old wait.old result
@@ -207,77 +209,73 @@ fn operand(
     let mut bang = bang_follows(at);
     while bang {
         let moved = advanced(text, at);
-        let Step::Taken = moved else {
-            return Answer::Refused;
+        let Ok(()) = moved else {
+            return Err(Refused);
         };
         odd = 1 - odd;
         bang = bang_follows(at);
     }
     let plain = plain(text, at, brackets, codes, out, wait);
-    let Answer::Found(literal) = plain else {
+    let Ok(literal) = plain else {
         return plain;
     };
-    Answer::Found(flipped(literal, odd))
+    Ok(flipped(literal, odd))
 }
 
 // An operand with no `!` before it: a code, `#0` or `#1`, or a guard in brackets.
-#[cycle(below_both_bracket_either_implies_left_chain_operand_plain_same)]
+#[cycle(levels)]
 fn plain(
     text: &[u8],
-    at: &mut [usize; PLACE],
+    at: &mut Place,
     brackets: usize,
-    codes: &mut [usize; CODES_ROOM],
+    codes: &mut [Code; FLAGS],
     out: &mut [u16; TRIPLETS_ROOM],
-    wait: &mut [u16; CONNECTIVES],
-) -> Answer
+    wait: &mut Stack,
+) -> Result<u16, Refused>
     requires asks { Asks text.now at.old brackets codes.old out.old wait.old }
-    requires at_value { bangs (kind_of (get_or at.old 0 0)) ≡ false }
+    requires at_value { bangs at.old.token.kind ≡ false }
     ensures { Says (plain (operands_at brackets)) brackets 0
         text.now at.old codes.old out.old wait.old result
         at.new codes.new out.new wait.new }
 {
-    let kind = kind_of(at[KIND]);
-    match kind {
+    match at.token.kind {
         Kind::Code => code_operand(text, at, codes),
         Kind::Truth(truth) => truth_operand(text, at, truth),
         Kind::Opening => bracket(text, at, brackets, codes, out, wait),
-        Kind::End => refused(at, 5),
-        Kind::Bang => refused(at, 5),
-        Kind::Sign(_) => refused(at, 5),
-        Kind::Closing => refused(at, 5),
+        _ => Err(at.refuse_ahead(5)),
     }
 }
 
 // A guard in brackets, which is an operand again.
-#[cycle(below_both_bracket_either_implies_left_chain_operand_plain_same)]
+#[cycle(levels)]
 fn bracket(
     text: &[u8],
-    at: &mut [usize; PLACE],
+    at: &mut Place,
     brackets: usize,
-    codes: &mut [usize; CODES_ROOM],
+    codes: &mut [Code; FLAGS],
     out: &mut [u16; TRIPLETS_ROOM],
-    wait: &mut [u16; CONNECTIVES],
-) -> Answer
+    wait: &mut Stack,
+) -> Result<u16, Refused>
     requires asks { Asks text.now at.old brackets codes.old out.old wait.old }
-    requires at_value { kind_of (get_or at.old 0 0) ≡ Kind.Opening }
+    requires at_value { at.old.token.kind ≡ Kind.Opening }
     ensures { Says (plain (operands_at brackets)) brackets 0
         text.now at.old codes.old out.old wait.old result
         at.new codes.new out.new wait.new }
 {
     if BRACKETS <= brackets {
-        return refused(at, 6);
+        return Err(at.refuse_ahead(6));
     }
     let moved = advanced(text, at);
-    let Step::Taken = moved else {
-        return Answer::Refused;
+    let Ok(()) = moved else {
+        return Err(Refused);
     };
     let inner = same(text, at, brackets + 1, codes, out, wait);
-    let Answer::Found(literal) = inner else {
+    let Ok(literal) = inner else {
         return inner;
     };
     let shut = closed(text, at);
-    let Step::Taken = shut else {
-        return Answer::Refused;
+    let Ok(()) = shut else {
+        return Err(Refused);
     };
-    Answer::Found(literal)
+    Ok(literal)
 }

@@ -13,6 +13,7 @@ use Rattle.notation.specs.Guard.{Guard}
 use Rattle.notation.specs.Grammar.{tree}
 use Rattle.notation.specs.Reading.{Reading, refusal, judged, reading}
 use Rattle.notation.specs.clauses.Codes.{start_of, end_of, code_in, flag_at, flags_in}
+use Rattle.notation.specs.declared.codes.Code.{Code}
 use Rattle.notation.specs.declared.refusal.Refusal.{Refusal}
 use Rattle.reading.specs.declared.parse.Guard as counted
 use Rattle.notation.proofs.Coding.{flags-split}
@@ -40,13 +41,13 @@ after-fits : (v w : List Flag) (f : Flag) → FlagsFit (v ++ (f ∷ w)) → leng
 after-fits [] w f h = h.0.1
 after-fits (g ∷ v) w f h = after-fits v w f h.1
 
-code-short : (text codes : List ℕ) (k i : ℕ) → FlagsFit (flags_in text codes k) → i < k → length (code_in text codes i) ≤ code_ceiling
+code-short : (text : List ℕ) (codes : List Code) (k i : ℕ) → FlagsFit (flags_in text codes k) → i < k → length (code_in text codes i) ≤ code_ceiling
 code-short text codes k i f h =
     let r = flags-split text codes i k h in
     after-fits (flags_in text codes i) r.0 (flag_at text (start_of codes i) (end_of codes i)) (subst (λ (u : List Flag). FlagsFit u) r.1 f)
 
 -- ---- what parse leaves
-module _ (text : List ℕ) (x : counted.Guard) (codes out : List ℕ) (f : Found text (reading text) x codes out) where
+module _ (text : List ℕ) (x : counted.Guard) (codes : List Code) (out : List ℕ) (f : Found text (reading text) x codes out) where
   count-is : x.flags ≡ length f.flags
   count-is = rw f.counts
 

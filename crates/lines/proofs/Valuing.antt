@@ -9,6 +9,7 @@ use lib.Seq.{length-take-le, drop-drop, drop_at}
 use Rattle.ground.specs.Choice.{choose}
 use Rattle.notation.specs.Walk.{Flag}
 use Rattle.notation.specs.clauses.Codes.{start_of, end_of, code_in, flag_at, flags_in}
+use Rattle.notation.specs.declared.codes.Code.{Code}
 use Rattle.notation.proofs.Coding.{flags-length, flags-split, fewer}
 use Rattle.ground.specs.Bits.{bit}
 use Rattle.ground.specs.Bytes.{bytes}
@@ -30,7 +31,7 @@ value-length code false = simp length-append (omega arith)
 
 -- ---- a table of codes
 -- fewer of them
-pub table-first : (text codes : List ℕ) (k i : ℕ) → CodeTable text codes k → i < k → CodeTable text codes (i + 1)
+pub table-first : (text : List ℕ) (codes : List Code) (k i : ℕ) → CodeTable text codes k → i < k → CodeTable text codes (i + 1)
 table-first text codes k i t h =
     record {
       in_text = fewer t.in_text (omega arith);
@@ -39,7 +40,7 @@ table-first text codes k i t h =
     }
 
 -- from flag i on: that flag, and those after it
-flags-from : (text codes : List ℕ) (k i : ℕ) → i < k
+flags-from : (text : List ℕ) (codes : List Code) (k i : ℕ) → i < k
     → (v : List Flag) × (drop i (flags_in text codes k) ≡ flag_at text (start_of codes i) (end_of codes i) ∷ v)
     × (drop (i + 1) (flags_in text codes k) ≡ v) × (length v ≡ k - 1 - i)
 flags-from text codes k i h =
@@ -55,14 +56,14 @@ flags-from text codes k i h =
 
 -- ---- the loop over the flags
 -- the first i of n flags are written, from a place of the slice out on, up to the place next of the slice now
-pub record Written (text codes : List ℕ) (n state : ℕ) (out : List ℕ) (at : ℕ) (now : List ℕ) (next i : ℕ) : Type 0 where
+pub record Written (text : List ℕ) (codes : List Code) (n state : ℕ) (out : List ℕ) (at : ℕ) (now : List ℕ) (next i : ℕ) : Type 0 where
   pub most : i ≤ n
   pub room : next + value_room * (n - i) ≤ at + value_room * n
   pub whole : take next now ++ valued (drop i (flags_in text codes n)) state ≡ take at out ++ valued (flags_in text codes n) state
   pub kept : drop next now ≡ drop next out
   pub long : length now ≡ length out
 
-module _ (text codes : List ℕ) (n state : ℕ) (out : List ℕ) (at : ℕ) where
+module _ (text : List ℕ) (codes : List Code) (n state : ℕ) (out : List ℕ) (at : ℕ) where
   pub written_none : Written text codes n state out at out at 0
   written_none = record { most = omega arith; room = omega arith; whole = refl; kept = refl; long = refl }
 

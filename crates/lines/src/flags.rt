@@ -10,7 +10,8 @@ ghost use Rattle.lines.specs.clauses.Put.{Puts, PutsIn, CodeTable, value_room};
 ghost use Rattle.lines.specs.Printed.{flag_value, valued, flags_of};
 
 use crate::put::{put, put_all};
-use notation::ceilings::{CODES_ROOM, TRIPLETS_ROOM};
+use notation::ceilings::{FLAGS, TRIPLETS_ROOM};
+use notation::codes::Code;
 use reading::parse::parse;
 
 // A bit of a state.
@@ -30,15 +31,14 @@ fn put_bit(out: &mut [u8], at: usize, value: bool) -> usize
 }
 
 // A space, the code of flag i of the table, `=` and its value.
-fn put_flag(out: &mut [u8], at: usize, text: &[u8], codes: &[usize], i: usize, value: bool) -> usize
+fn put_flag(out: &mut [u8], at: usize, text: &[u8], codes: &[Code], i: usize, value: bool) -> usize
     requires code_table { CodeTable text.now codes.now (i + 1) }
     requires value_room_in_bounds { at + value_room ≤ length out.old }
     ensures { Puts out.old at (flag_value (code_in text.now codes.now i) value) out.new result }
 {
-    let start = codes[2 * i];
-    let end = codes[2 * i + 1];
+    let flag = codes[i];
     let code = put(out, at, b' ');
-    let sign = put_all(out, code, &text[start..end]);
+    let sign = put_all(out, code, &text[flag.start..flag.next]);
     let digit = put(out, sign, b'=');
     put_bit(out, digit, value)
 }
@@ -48,7 +48,7 @@ fn put_values(
     out: &mut [u8],
     at: usize,
     text: &[u8],
-    codes: &[usize],
+    codes: &[Code],
     flags: usize,
     state: u64,
 ) -> usize
@@ -70,7 +70,7 @@ pub fn put_flags(out: &mut [u8], at: usize, text: &[u8], state: u64) -> usize
     requires { at + value_room * flag_ceiling ≤ length out.old }
     ensures { PutsIn (value_room * flag_ceiling) out.old at (valued (flags_of (reading text.now)) state) out.new result }
 {
-    let mut codes = [0usize; CODES_ROOM];
+    let mut codes = [Code::NONE; FLAGS];
     let mut triplets = [0u16; TRIPLETS_ROOM];
     let Ok(guard) = parse(text, &mut codes, &mut triplets) else {
         return at;

@@ -7,6 +7,7 @@ use native.Mathlib.Omega.{arith}
 use lib.ListN.{length}
 use lib.Dec.{ltb}
 use borrow.Author.Tests.{ltb-true}
+use Rattle.notation.specs.declared.codes.Code.{Code}
 use Rattle.notation.specs.Ceilings.{connective_ceiling}
 use Rattle.notation.specs.Reading.{refusal, reading}
 use Rattle.notation.specs.declared.refusal.Refusal.{Refusal}
@@ -26,7 +27,7 @@ module _ (text : List ℕ) (start : ℕ) (out : List ℕ) where
   unfolding listed filled
   lists-refusal f e = record { answers = rw e refl; holds = rw e refl }
 
-  module _ (x : counted.Guard) (codes xs : List ℕ) (f : serving.Found text (reading text) x codes xs) where
+  module _ (x : counted.Guard) (codes : List Code) (xs : List ℕ) (f : serving.Found text (reading text) x codes xs) where
     pub lists-no-state : ltb start (2 ^ x.flags) ≡ false → Lists text start out (Err (record { number = 9; place = 0 })) out
     unfolding listed filled
     lists-no-state h =

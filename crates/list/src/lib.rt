@@ -4,7 +4,8 @@
 ghost use Rattle.list.specs.Listed.{Lists};
 
 use gaps::writing::Found;
-use notation::ceilings::{CODES_ROOM, TRIPLETS_ROOM};
+use notation::ceilings::{FLAGS, TRIPLETS_ROOM};
+use notation::codes::Code;
 use notation::refusal::Refusal;
 use reading::parse::parse;
 use search::search;
@@ -14,7 +15,7 @@ use truth::states::is_state;
 pub fn list(text: &[u8], start: u64, out: &mut [u32]) -> Result<Found, Refusal>
     ensures { Lists text.now start out.old result out.new }
 {
-    let mut codes = [0usize; CODES_ROOM];
+    let mut codes = [Code::NONE; FLAGS];
     let mut triplets = [0u16; TRIPLETS_ROOM];
     let guard = parse(text, &mut codes, &mut triplets)?;
     if !is_state(start, guard.flags) {

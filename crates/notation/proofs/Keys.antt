@@ -1,8 +1,11 @@
 -- A key tells a code of at most eight bytes: no other code as long has it.
 use Prim.Native.Nat.{ℕ, zero, suc, ◌+◌, ◌*◌, ◌%◌, ◌^◌, ◌≤◌, ◌<◌}
 use native.Mathlib.Omega.{arith}
-use mathlib.Core.Path.{◌≡◌, refl, ap, subst, ◌∙◌}
-use mathlib.Core.Bool.{true}
+use mathlib.Core.Path.{◌≡◌, refl, sym, ap, subst, ◌∙◌}
+use mathlib.Core.Bool.{Bool, true, false, ◌&&◌}
+use lib.Dec.{eqb}
+use lib.Pointwise.{pointwise}
+use Rattle.ground.specs.Choice.{choose}
 use mathlib.Core.List.{List, [], ◌∷◌}
 use lib.ListN.{length, get_or, take, drop}
 use borrow.Author.Tests.{eq-eqb}
@@ -83,12 +86,24 @@ unfolding same_code
 same_self [] = refl
 same_self (a ∷ c) = rw (eq-eqb a a refl) (same_self c)
 
--- parts of a text with the same key, of the same length up to eight, are the same
-pub same_key : (text : List ℕ) → Bytes text → (a b n : ℕ) → n ≤ 8 → length (take n (drop a text)) ≡ n → length (take n (drop b text)) ≡ n
-    →
-    key_of (take n (drop a text)) ≡ key_of (take n (drop b text)) → same_code (take n (drop a text)) (take n (drop b text)) ≡ true
-same_key text h a b n small p q e =
-    let c = take n (drop a text) in
-    let r = key-told (take n (drop a text)) (take n (drop b text)) 0 0 n p q (fits-eight n small) (fits-eight n small)
-    (bytes_take n (drop a text) (bytes_drop a text h)) (bytes_take n (drop b text) (bytes_drop b text h)) e in
-    subst (λ (d : Code). same_code (take n (drop a text)) d ≡ true) r.1 (same_self (take n (drop a text)))
+-- codes with the same key, of the same length up to eight, are the same
+pub same_key : (c d : Code) → Bytes c → Bytes d → length c ≡ length d → length c ≤ 8 → key_of c ≡ key_of d → same_code c d ≡ true
+same_key c d x y l small e =
+    let r = key-told c d 0 0 (length c) refl (sym l) (fits-eight (length c) small) (fits-eight (length c) small) x y e in
+    subst (λ (z : Code). same_code c z ≡ true) r.1 (same_self c)
+
+-- a part of a text of bytes
+pub bytes-part : (text : List ℕ) → ((i : ℕ) → get_or text i 0 < 256) → (a n : ℕ) → Bytes (take n (drop a text))
+bytes-part text h a n = bytes_take n (drop a text) (bytes_drop a text (bytes_of text h))
+
+-- comparing two codes as lists tells whether they are the same
+pub same_lists : (c d : Code) → pointwise eqb c d ≡ same_code c d
+unfolding same_code
+same_lists [] [] = refl
+same_lists [] (b ∷ d) = refl
+same_lists (a ∷ c) [] = refl
+same_lists (a ∷ c) (b ∷ d) = by_first (eqb a b) (same_lists c d)
+  where
+    by_first : (t : Bool) → pointwise eqb c d ≡ same_code c d → (t && pointwise eqb c d) ≡ choose t (same_code c d) false
+    by_first true h = h
+    by_first false h = refl

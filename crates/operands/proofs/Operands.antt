@@ -4,7 +4,8 @@ use native.Mathlib.Omega.{arith}
 use mathlib.Core.Path.{◌≡◌, refl, sym, ap, subst, ◌∙◌}
 use mathlib.Core.Bool.{Bool, true, false, true≢false}
 use mathlib.Core.List.{List, [], ◌∷◌, ◌++◌}
-use lib.ListN.{length, get_or, set, length-append, length-set}
+use lib.ListN.{length, set, length-append, length-set}
+use Rattle.std.specs.Prelude.{Result, Err}
 use lib.Dec.{leb}
 use borrow.Author.Tests.{le-leb, lt-leb}
 use Rattle.notation.specs.Ceilings.{flag_ceiling}
@@ -15,12 +16,13 @@ use Rattle.notation.specs.Guard.{Guard, flag, truth, connectives}
 use Rattle.notation.specs.Grammar.{Level, found, number, past, closed, operand_of}
 use Rattle.notation.specs.Triplets.{literal, triplets, literal_ceiling}
 use Rattle.notation.specs.clauses.Cut.{part, ahead_as, ahead, ends}
-use Rattle.notation.specs.clauses.Codes.{flags_in, flag_at, InText, Keyed, PlaceOf, entered}
-use Rattle.notation.specs.clauses.Place.{place_room, kind_of, token_in, RefusedAt}
+use Rattle.notation.specs.clauses.Codes.{flags_in, flag_at, code_at, InText, Keyed, PlaceOf}
+use Rattle.notation.specs.clauses.Place.{RefusedAt}
 use Rattle.operands.specs.clauses.Steps.{
   At,
   binding,
   joins,
+  bangs,
   closes,
   place,
   Standing,
@@ -29,18 +31,16 @@ use Rattle.operands.specs.clauses.Steps.{
   PastTokenSays,
   Atom,
   AtomSays,
-  RefusedSays,
   ClosedSays,
 }
 use Rattle.notation.specs.declared.refusal.Refusal.{Refusal}
+use Rattle.notation.specs.declared.codes.Code.{Code}
 use Rattle.notation.specs.declared.place.Kind.{Kind}
 use Rattle.notation.specs.declared.place.Kind.TheVariants as kind
-use Rattle.notation.specs.declared.place.Step.{Step}
-use Rattle.notation.specs.declared.place.Step.TheVariants as step
-use Rattle.operands.specs.declared.Answer.{Answer}
-use Rattle.operands.specs.declared.Answer.TheVariants as answer
+use Rattle.notation.specs.declared.place.Place.{Place}
+use Rattle.notation.specs.declared.refusal.Refused.{Refused}
 use Rattle.notation.proofs.Coding.{known-number, flags-length, flags-entered, in-text-entered}
-use Rattle.notation.proofs.Placing.{eight, never_both}
+use Rattle.notation.proofs.Placing.{never_both}
 
 -- no sign binds tighter than `&`
 pub no-tighter : (s : Sign) → binding s ≤ 0 → ⊥
@@ -54,7 +54,7 @@ abbrev pub with_flags : At → ℕ → At
 with_flags at n = record { token = at.token; flags = n; signs = at.signs; count = at.count }
 
 -- an operand of one token: a guard with no connective, after which the reader has n flags
-pub record OneToken (text : List ℕ) (at : At) (codes codes' : List ℕ) (n : ℕ) (g : Guard) (l : ℕ) : Type 0 where
+pub record OneToken (text : List ℕ) (at : At) (codes codes' : List Code) (n : ℕ) (g : Guard) (l : ℕ) : Type 0 where
   pub plainly : connectives g ≡ 0
   pub nothing : (c : ℕ) → triplets c g ≡ []
   pub literally : (c : ℕ) → l ≡ literal c g
@@ -65,11 +65,7 @@ pub record OneToken (text : List ℕ) (at : At) (codes codes' : List ℕ) (n : �
       at.signs (past (ahead text at.token))
   pub standing : Standing text codes' (with_flags at n)
 
--- an answer is not both
-pub never-answer : {A : Type 0} (l : ℕ) (r : Answer) → r ≡ answer.Found l → r ≡ answer.Refused → A
-never-answer l r e f = let z : ◌≡◌ {A = ℕ} 0 1 = cc in absurd (omega arith)
-
-module _ {text : List ℕ} {at : At} {codes codes' : List ℕ} {n : ℕ} {g : Guard} {l : ℕ} (o : OneToken text at codes codes' n g l) where
+module _ {text : List ℕ} {at : At} {codes codes' : List Code} {n : ℕ} {g : Guard} {l : ℕ} (o : OneToken text at codes codes' n g l) where
   -- such an operand, once the reader is past its token
   atom-found : (to : At) → Advanced text (with_flags at n) at.signs to → Atom text at codes l to codes'
   atom-found to a = record {
@@ -98,50 +94,19 @@ module _ {text : List ℕ} {at : At} {codes codes' : List ℕ} {n : ℕ} {g : Gu
     later = a.later;
   }
 
--- the reader stands at p₁ with n flags, else as at p
-pub record FlagsStored (n : ℕ) (p p₁ : List ℕ) : Type 0 where
-  pub stands : place p₁ ≡ with_flags (place p) n
-  pub waits : get_or p₁ 7 0 ≡ get_or p 7 0
-  pub room : length p₁ ≡ place_room
-
-pub flags-stored : (n : ℕ) (p : List ℕ) → length p ≡ place_room → FlagsStored n p (set p 3 n)
-flags-stored n p l = eight (λ q. FlagsStored n q (set q 3 n)) (λ a b c d e f g h. record { stands = refl; waits = refl; room = refl }) p l
-
-pub flags-as : (p : List ℕ) → length p ≡ place_room → FlagsStored (get_or p 3 0) p p
-flags-as p l = record { stands = refl; waits = refl; room = l }
+-- the reader stands as at p, with n flags
+abbrev pub flags_stored : ℕ → Place → Place
+flags_stored n p = record { token = p.token; flags = n; signs = p.signs; count = p.count; refusal = p.refusal }
 
 -- the operand of one token, from where its token was passed
-pub atom-says : {text p : List ℕ} {codes codes' : List ℕ} {n : ℕ} {g : Guard} {l : ℕ} → OneToken text (place p) codes codes' n g l →
-    {p₁ p' : List ℕ} {r : Answer} → FlagsStored n p p₁ → PastTokenSays text p₁ l r p' → AtomSays text p codes r p' codes'
-atom-says {text} {p} {codes} {codes'} {n} {g} {l} o {p₁} {p'} {r} f a = record {
+pub atom-says : {text : List ℕ} {p : Place} {codes codes' : List Code} {n : ℕ} {g : Guard} {l : ℕ} → OneToken text (place p) codes codes' n g l →
+    {p' : Place} {r : Result ℕ Refused} → PastTokenSays text (flags_stored n p) l r p' → AtomSays text p codes r p' codes'
+atom-says {text} {p} {codes} {codes'} {n} {g} {l} o {p'} {r} a = record {
   found = λ m e.
       let q = a.found m e in
-      subst (λ (k : ℕ). Atom text (place p) codes k (place p') codes') (sym q.1)
-      (atom-found o (place p')
-      (subst (λ (x : At). Advanced text x (get_or p 4 0) (place p')) f.stands
-      (subst (λ (k : ℕ). Advanced text (place p₁) k (place p')) (ap (λ (x : At). x.signs) f.stands) q.0)));
-  refused = λ e d.
-      o.walked d
-      ∙ ap (λ (x : At). walk after d (flags_in text codes' n) (get_or p 4 0) (past (ahead text x.token))) (sym f.stands)
-      ∙ a.refused e after d (flags_in text codes' n) (get_or p 4 0);
-  kept = record { waits = a.kept.waits ∙ f.waits; room = a.kept.room };
+      subst (λ (k : ℕ). Atom text (place p) codes k (place p') codes') (sym q.1) (atom-found o (place p') q.0);
+  refused = λ x e d. o.walked d ∙ a.refused x e after d (flags_in text codes' n) p.signs;
 }
-
--- the token after the one of a literal
-pub past-token-found : {text p p' : List ℕ} {l : ℕ} {r : Step} → AdvancedSays text p r p' → r ≡ step.Taken → PastTokenSays text p l
-    (answer.Found l) p'
-past-token-found {text} {p} {p'} {l} {r} a e = record {
-  found = λ m h. (a.taken e, same-found m h);
-  refused = λ h. never-answer l (answer.Found l) refl h;
-  kept = a.kept;
-}
-  where
-    same-found : (m : ℕ) → answer.Found l ≡ answer.Found m → m ≡ l
-    same-found m h = cc
-
-pub past-token-refused : {text p p' : List ℕ} {l : ℕ} {r : Step} → AdvancedSays text p r p' → r ≡ step.Refused → PastTokenSays text p l
-    answer.Refused p'
-past-token-refused a e = record { found = λ m h. never-answer m answer.Refused h refl; refused = λ h. a.refused e; kept = a.kept }
 
 -- the token ahead, told by its kind
 ahead-truth : (k : Kind) (text : List ℕ) (p e : ℕ) (b : Bool) → k ≡ kind.Truth b → ahead_as k text p e ≡ token-at p (hash b)
@@ -160,7 +125,7 @@ literal-truth true c = refl
 literal-truth false c = refl
 
 -- `#0` or `#1` is an operand
-pub truth-token : (text : List ℕ) (at : At) (codes : List ℕ) (b : Bool) (l : ℕ) → Standing text codes at → at.token.kind ≡ kind.Truth b →
+pub truth-token : (text : List ℕ) (at : At) (codes : List Code) (b : Bool) (l : ℕ) → Standing text codes at → at.token.kind ≡ kind.Truth b →
     l ≡ choose b 0 1 → l ≤ 1 →
     OneToken text at codes codes at.flags (truth b) l
 unfolding operand_of walk connectives triplets
@@ -174,7 +139,7 @@ truth-token text at codes b l st k e h = record {
   standing = st;
 }
 
-module _ (text : List ℕ) (at : At) (codes : List ℕ) (st : Standing text codes at) (k : at.token.kind ≡ kind.Code) where
+module _ (text : List ℕ) (at : At) (codes : List Code) (st : Standing text codes at) (k : at.token.kind ≡ kind.Code) where
   flags : List Flag
   flags = flags_in text codes at.flags
 
@@ -198,7 +163,7 @@ module _ (text : List ℕ) (at : At) (codes : List ℕ) (st : Standing text code
   unfolding walk
   code-walked d = ap (walk operand d flags at.signs) ahead-is
 
-  module _ (r : ℕ) (pl : PlaceOf text codes at.flags at.token.start at.token.next r) where
+  module _ (r : ℕ) (pl : PlaceOf text codes at.flags (code_at text at.token.start at.token.next) r) where
     numbered : number name flags ≡ r + 1
     unfolding name flags
     numbered = pl.numbered
@@ -238,12 +203,11 @@ module _ (text : List ℕ) (at : At) (codes : List ℕ) (st : Standing text code
         (flags-length text codes at.flags)
 
     -- a code that is new is an operand too, and is entered into the table
-    pub new-token : at.flags ≤ r → at.flags < flag_ceiling → (l : ℕ) → l ≡ 2 * (r + 1) → (n : ℕ) → Keyed text at.token.start
-        at.token.next n →
-        OneToken text at codes (entered codes at.flags at.token.start at.token.next n) (at.flags + 1) (flag (r + 1)) l
+    pub new-token : at.flags ≤ r → at.flags < flag_ceiling → (l : ℕ) → l ≡ 2 * (r + 1) → Keyed text (code_at text at.token.start at.token.next) →
+        OneToken text at codes (set codes at.flags (code_at text at.token.start at.token.next)) (at.flags + 1) (flag (r + 1)) l
     unfolding connectives triplets literal within flags
-    new-token h i l e n key =
-        let u' = new-seen h ∙ sym (flags-entered text codes at.flags at.token.start at.token.next n st.table i) in
+    new-token h i l e key =
+        let u' = new-seen h ∙ sym (flags-entered text codes at.flags (code_at text at.token.start at.token.next) (omega (arith, st.table))) in
         record {
           plainly = refl;
           nothing = λ c. refl;
@@ -253,7 +217,7 @@ module _ (text : List ℕ) (at : At) (codes : List ℕ) (st : Standing text code
           walked = λ d. code-walked d ∙ rw (longer h, le-leb (at.flags + 1) flag_ceiling (omega arith), u');
           standing = record {
             token = st.token;
-            in_text = in-text-entered text codes at.flags at.token.start at.token.next n st.table i st.in_text key;
+            in_text = in-text-entered text codes at.flags (code_at text at.token.start at.token.next) (omega (arith, st.table)) st.in_text key;
             table = simp length-set st.table;
             flags = omega arith;
             signs = st.signs;
@@ -268,13 +232,12 @@ module _ (text : List ℕ) (at : At) (codes : List ℕ) (st : Standing text code
     too_many h i d = code-walked d ∙ rw (longer h, lt-leb (at.flags + 1) flag_ceiling (omega arith))
 
 -- a 25th flag
-pub too-many-says : {text p codes p' : List ℕ} {r : Answer} →
-    ((d : ℕ) → walk operand d (flags_in text codes (get_or p 3 0)) (get_or p 4 0) (ahead text (token_in p)) ≡ refused 7 (get_or p 1 0)) →
-    RefusedSays 7 p r p' → AtomSays text p codes r p' codes
-too-many-says {text} {p} {codes} {p'} {r} h c = record {
-  found = λ l e. never-answer l r e c.refused;
-  refused = λ e d. h d ∙ ap (λ (n : ℕ). refused n (get_or p 1 0)) (sym c.number) ∙ ap (refused (get_or p' 6 0)) (sym c.start);
-  kept = c.kept;
+pub too-many-says : {text : List ℕ} {p : Place} {codes : List Code} {p' : Place} {y : Refused} →
+    ((d : ℕ) → walk operand d (flags_in text codes p.flags) p.signs (ahead text p.token) ≡ refused 7 p.token.start) →
+    RefusedAt 7 p.token.start p p' → AtomSays text p codes (Err y) p' codes
+too-many-says h c = record {
+  found = λ l e. never_both e refl;
+  refused = λ _ _ d. h d ∙ ap (λ (f : Refusal). refused f.number f.place) (sym c.refusal);
 }
 
 -- at a closing bracket the guard in brackets is an operand
@@ -321,27 +284,25 @@ closing-on (kind.Sign c) e = refl
 closing-on kind.Opening e = refl
 closing-on kind.Closing e = refl
 
-module _ {text p p' : List ℕ} {r : Step} where
-  pub closed-says : closes (kind_of (get_or p 0 0)) ≡ true → AdvancedSays text p r p' → ClosedSays text p r p'
+module _ {text : List ℕ} {p p' : Place} where
+  pub closed-says : {r : Result Unit Refused} → closes p.token.kind ≡ true → AdvancedSays text p r p' → ClosedSays text p r p'
   closed-says k a = record {
     taken = λ e.
         let v = a.taken e in
         record {
           advanced = v;
-          walked = λ d u m. closing-walked (kind_of (get_or p 0 0)) text (get_or p 1 0) (get_or p 2 0) d u m k ∙ ap (walk after d u m) v.tokens;
-          parsed = λ g u. closing-parsed (kind_of (get_or p 0 0)) text (get_or p 1 0) (get_or p 2 0) g u k ∙ ap (found g u) v.tokens;
+          walked = λ d u m. closing-walked p.token.kind text p.token.start p.token.next d u m k ∙ ap (walk after d u m) v.tokens;
+          parsed = λ g u. closing-parsed p.token.kind text p.token.start p.token.next g u k ∙ ap (found g u) v.tokens;
         };
-    refused = λ e d u m. closing-walked (kind_of (get_or p 0 0)) text (get_or p 1 0) (get_or p 2 0) d u m k ∙ a.refused e after d u m;
-    kept = a.kept;
+    refused = λ x e d u m. closing-walked p.token.kind text p.token.start p.token.next d u m k ∙ a.refused x e after d u m;
   }
 
-  pub closed-refused : joins (kind_of (get_or p 0 0)) ≡ false → closes (kind_of (get_or p 0 0)) ≡ false → RefusedAt 5 (get_or p 1 0) p r p' → ClosedSays
-      text p r p'
+  pub closed-refused : {x : Refused} → joins p.token.kind ≡ false → closes p.token.kind ≡ false → RefusedAt 5 p.token.start p p' →
+      ClosedSays text p (Err x) p'
   closed-refused j k c = record {
-    taken = λ e. never_both r e c.answer;
-    refused = λ e d u m.
-        no-closing (kind_of (get_or p 0 0)) text (get_or p 1 0) (get_or p 2 0) d u m j k ∙ ap (λ (f : Refusal). refused f.number f.place) (sym c.refusal);
-    kept = record { waits = c.behind.waits; room = c.behind.room };
+    taken = λ e. never_both e refl;
+    refused = λ _ _ d u m.
+        no-closing p.token.kind text p.token.start p.token.next d u m j k ∙ ap (λ (f : Refusal). refused f.number f.place) (sym c.refusal);
   }
 
 -- no operand starts with the end, a sign or a closing bracket
@@ -354,6 +315,16 @@ opens (kind.Sign c) = false
 opens kind.Opening = true
 opens kind.Closing = false
 
+pub no-opener : (k : Kind) → bangs k ≡ false → (k ≡ kind.Code → ⊥) → ((b : Bool) → k ≡ kind.Truth b → ⊥) → (k ≡ kind.Opening → ⊥) →
+    opens k ≡ false
+no-opener kind.End b c t o = refl
+no-opener kind.Code b c t o = absurd (c refl)
+no-opener (kind.Truth x) b c t o = absurd (t x refl)
+no-opener kind.Bang b c t o = absurd (true≢false b)
+no-opener (kind.Sign s) b c t o = refl
+no-opener kind.Opening b c t o = absurd (o refl)
+no-opener kind.Closing b c t o = refl
+
 pub no_operand : (k : Kind) (text : List ℕ) (p e d : ℕ) (u : List Flag) (m : ℕ) → opens k ≡ false →
     walk operand d u m (ahead_as k text p e) ≡ refused 5 p
 unfolding walk ahead_as
@@ -364,12 +335,3 @@ no_operand kind.Bang text p e d u m h = absurd (true≢false h)
 no_operand (kind.Sign c) text p e d u m h = refl
 no_operand kind.Opening text p e d u m h = absurd (true≢false h)
 no_operand kind.Closing text p e d u m h = refl
-
--- refused at the token ahead
-pub refused_says : {n : ℕ} {p p' : List ℕ} {s : Step} → RefusedAt n (get_or p 1 0) p s p' → RefusedSays n p answer.Refused p'
-refused_says c = record {
-  refused = refl;
-  number = ap (λ (f : Refusal). f.number) c.refusal;
-  start = ap (λ (f : Refusal). f.place) c.refusal;
-  kept = record { waits = c.behind.waits; room = c.behind.room };
-}

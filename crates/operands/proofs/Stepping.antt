@@ -5,7 +5,7 @@ use native.Mathlib.Omega.{arith}
 use mathlib.Core.Path.{◌≡◌, refl, sym, ap, ◌∙◌}
 use mathlib.Core.Bool.{true, false, true≢false}
 use mathlib.Core.List.{List}
-use lib.ListN.{length, get_or, set}
+use Rattle.std.specs.Prelude.{Result, Err}
 use lib.Dec.{eqb}
 use borrow.Author.Tests.{le-leb, lt-leb}
 use Rattle.notation.specs.Ceilings.{connective_ceiling}
@@ -13,13 +13,14 @@ use Rattle.notation.specs.Tokens.{Sign, same, implies, or, and, tokens_at}
 use Rattle.notation.specs.Walk.{Flag, refused, walk, operand, after, within}
 use Rattle.notation.specs.Grammar.{same_sign, is_sign, sign_next, past}
 use Rattle.notation.specs.clauses.Cut.{ahead_as, ahead, ends, sign_of}
-use Rattle.notation.specs.clauses.Place.{place_room, kind_of, token_in, RefusedAt, CutSays}
-use Rattle.notation.proofs.Placing.{eight, never_both, agree, agrees, kind-test}
-use Rattle.operands.specs.clauses.Steps.{binding, sign_number, kind_is, joins, bangs, closes, TokenFits, AdvancedSays, PastSignSays}
+use Rattle.notation.specs.clauses.Place.{RefusedAt, CutSays}
+use Rattle.notation.proofs.Placing.{never_both}
+use Rattle.operands.specs.clauses.Steps.{binding, kind_is, joins, TokenFits, AdvancedSays, PastSignSays}
 use Rattle.notation.specs.declared.refusal.Refusal.{Refusal}
+use Rattle.notation.specs.declared.refusal.Refused.{Refused}
 use Rattle.notation.specs.declared.place.Kind.{Kind}
 use Rattle.notation.specs.declared.place.Kind.TheVariants as kind
-use Rattle.notation.specs.declared.place.Step.{Step}
+use Rattle.notation.specs.declared.place.Place.{Place}
 
 -- signs are the same where they bind as tight
 pub same-binding : (s t : Sign) → eqb (binding s) (binding t) ≡ same_sign s t
@@ -72,22 +73,6 @@ joins-on (kind.Sign c) e = refl
 joins-on kind.Opening e = refl
 joins-on kind.Closing e = refl
 
--- which sign stands next, whether `!` does or a closing bracket, is told by the number of the kind
-pub sign-test : (s : Sign) (k : ℕ) → eqb k (sign_number s) ≡ kind_is s (kind_of k)
-unfolding agree agrees kind_of kind_is same_sign
-sign-test same k = kind-test (kind_is same) 8 (omega arith) refl refl k
-sign-test implies k = kind-test (kind_is implies) 7 (omega arith) refl refl k
-sign-test or k = kind-test (kind_is or) 6 (omega arith) refl refl k
-sign-test and k = kind-test (kind_is and) 5 (omega arith) refl refl k
-
-pub bang-test : (k : ℕ) → eqb k 4 ≡ bangs (kind_of k)
-unfolding agree agrees kind_of
-bang-test k = kind-test bangs 4 (omega arith) refl refl k
-
-pub closing-test : (k : ℕ) → eqb k 10 ≡ closes (kind_of k)
-unfolding agree agrees kind_of
-closing-test k = kind-test closes 10 (omega arith) refl refl k
-
 -- after a token that is not the end come the tokens from its end on
 pub past-ahead : (k : Kind) (text : List ℕ) (p e : ℕ) → ends k ≡ false → past (ahead_as k text p e) ≡ tokens_at text e
 unfolding past ahead_as
@@ -123,12 +108,12 @@ sign-passed (kind.Sign c) text p e d u m h l = rw (add-one, le-leb (suc m) conne
 sign-passed kind.Opening text p e d u m h l = absurd (true≢false (sym h))
 sign-passed kind.Closing text p e d u m h l = absurd (true≢false (sym h))
 
-after-it : (text p : List ℕ) → ends (kind_of (get_or p 0 0)) ≡ false → past (ahead text (token_in p)) ≡ tokens_at text (get_or p 2 0)
-after-it text p on = past-ahead (kind_of (get_or p 0 0)) text (get_or p 1 0) (get_or p 2 0) on
+after-it : (text : List ℕ) (p : Place) → ends p.token.kind ≡ false → past (ahead text p.token) ≡ tokens_at text p.token.next
+after-it text p on = past-ahead p.token.kind text p.token.start p.token.next on
 
 -- the token after the one ahead, or a faulty one
-pub advanced-says : {text p p' : List ℕ} {r : Step} → TokenFits text (token_in p) → ends (kind_of (get_or p 0 0)) ≡ false →
-    CutSays text (get_or p 2 0) p r p' → AdvancedSays text p r p'
+pub advanced-says : {text : List ℕ} {p p' : Place} {r : Result Unit Refused} → TokenFits text p.token → ends p.token.kind ≡ false →
+    CutSays text p.token.next p r p' → AdvancedSays text p r p'
 advanced-says {text} {p} fits on c = record {
   taken = λ e.
       let n = c.taken e in
@@ -140,61 +125,52 @@ advanced-says {text} {p} fits on c = record {
         signs = c.behind.signs;
         count = c.behind.count;
       };
-  refused = λ e w d u m. ap (walk w d u m) (after-it text p on) ∙ c.refused e w d u m;
-  kept = record { waits = c.behind.waits; room = c.behind.room };
+  refused = λ x e w d u m. ap (walk w d u m) (after-it text p on) ∙ c.refused x e w d u m;
 }
 
 -- one sign more is counted
-pub record SignCounted (p p₁ : List ℕ) : Type 0 where
-  pub kind : get_or p₁ 0 0 ≡ get_or p 0 0
-  pub start : get_or p₁ 1 0 ≡ get_or p 1 0
-  pub next : get_or p₁ 2 0 ≡ get_or p 2 0
-  pub flags : get_or p₁ 3 0 ≡ get_or p 3 0
-  pub signs : get_or p₁ 4 0 ≡ get_or p 4 0 + 1
-  pub count : get_or p₁ 5 0 ≡ get_or p 5 0
-  pub waits : get_or p₁ 7 0 ≡ get_or p 7 0
-  pub room : length p₁ ≡ place_room
+abbrev pub counted : Place → Place
+counted p = record {
+  token = p.token;
+  flags = p.flags;
+  signs = p.signs + 1;
+  count = p.count;
+ 
+  refusal = p.refusal;
+}
 
-pub sign-counted : (p : List ℕ) → length p ≡ place_room → SignCounted p (set p 4 (get_or p 4 0 + 1))
-sign-counted p l =
-    eight (λ q. SignCounted q (set q 4 (get_or q 4 0 + 1)))
-    (λ a b c d e f g h. record { kind = refl; start = refl; next = refl; flags = refl; signs = refl; count = refl; waits = refl; room = refl }) p l
-
-module _ (text p : List ℕ) (fits : TokenFits text (token_in p)) (j : joins (kind_of (get_or p 0 0)) ≡ true) where
+module _ (text : List ℕ) (p : Place) (fits : TokenFits text p.token) (j : joins p.token.kind ≡ true) where
   -- past a sign that is within the ceiling
-  pub past-sign-says : {p₁ p' : List ℕ} {r : Step} → get_or p 4 0 < connective_ceiling → SignCounted p p₁ → CutSays text (get_or p₁ 2 0) p₁ r
-      p' →
+  pub past-sign-says : {p' : Place} {r : Result Unit Refused} → p.signs < connective_ceiling → CutSays text p.token.next (counted p) r p' →
       PastSignSays text p r p'
-  past-sign-says {p₁} {p'} {r} l s c =
-      let on = joins-on (kind_of (get_or p 0 0)) j in
-      let here : tokens_at text (get_or p 2 0) ≡ tokens_at text (get_or p₁ 2 0) = ap (tokens_at text) (sym s.next) in
+  past-sign-says l c =
+      let on = joins-on p.token.kind j in
       record {
         taken = λ e.
             let n = c.taken e in (
               record {
-                tokens = after-it text p on ∙ here ∙ n.tokens;
+                tokens = after-it text p on ∙ n.tokens;
                 token = record { moves = n.moves; inside = n.inside };
-                later = omega (arith, fits.moves on, n.later, s.next);
-                flags = c.behind.flags ∙ s.flags;
-                signs = c.behind.signs ∙ s.signs;
-                count = c.behind.count ∙ s.count;
+                later = omega (arith, fits.moves on, n.later);
+                flags = c.behind.flags;
+                signs = c.behind.signs;
+                count = c.behind.count;
               },
               l,
             );
-        refused = λ e d u.
-            sign-passed (kind_of (get_or p 0 0)) text (get_or p 1 0) (get_or p 2 0) d u (get_or p 4 0) j l
-            ∙ ap (walk operand d u (get_or p 4 0 + 1)) (after-it text p on ∙ here) ∙ c.refused e operand d u (get_or p 4 0 + 1);
-        kept = record { waits = c.behind.waits ∙ s.waits; room = c.behind.room };
+        refused = λ x e d u.
+            sign-passed p.token.kind text p.token.start p.token.next d u p.signs j l
+            ∙ ap (walk operand d u (p.signs + 1)) (after-it text p on) ∙ c.refused x e operand d u (p.signs + 1);
       }
 
   -- past the ceiling it is refused
-  pub past-sign-refused : {p' : List ℕ} {r : Step} → connective_ceiling ≤ get_or p 4 0 → RefusedAt 8 (get_or p 1 0) p r p' → PastSignSays text p r p'
-  past-sign-refused {p'} {r} l c = record {
-    taken = λ e. never_both r e c.answer;
-    refused = λ e d u.
-        sign-refused (kind_of (get_or p 0 0)) text (get_or p 1 0) (get_or p 2 0) d u (get_or p 4 0) j l
+  pub past-sign-refused : {p' : Place} {x : Refused} → connective_ceiling ≤ p.signs → RefusedAt 8 p.token.start p p' →
+      PastSignSays text p (Err x) p'
+  past-sign-refused l c = record {
+    taken = λ e. never_both e refl;
+    refused = λ _ _ d u.
+        sign-refused p.token.kind text p.token.start p.token.next d u p.signs j l
         ∙ ap (λ (f : Refusal). refused f.number f.place) (sym c.refusal);
-    kept = record { waits = c.behind.waits; room = c.behind.room };
   }
 
 same_self : (s : Sign) → same_sign s s ≡ true

@@ -2,181 +2,117 @@
 // over the lent place where the reader stands.
 #![tactic(auto)]
 
+pub mod waiting;
+
 ghost use Rattle.std.specs.Prelude.{◌≡◌, true, false, ◌+◌, ◌-◌, ◌*◌, ◌≤◌, ◌<◌, length, get_or};
 ghost use Rattle.notation.specs.clauses.Cut.{ends, sign_of};
 ghost use Rattle.notation.specs.Ceilings.{connective_ceiling, flag_ceiling};
 ghost use Rattle.notation.specs.Tokens.{implies};
 ghost use Rattle.notation.specs.Triplets.{literal_ceiling};
-ghost use Rattle.notation.specs.clauses.Place.{place_room, kind_of, token_in};
-ghost use Rattle.operands.specs.clauses.Steps.{sign_number, kind_is, joins, bangs, closes, place, TokenFits, Standing, AdvancedSays, PastSignSays};
-ghost use Rattle.operands.specs.clauses.Steps.{PastTokenSays, AtomSays, TruthSays, ClosedSays, RefusedSays, JoinedSays, SetAside};
+ghost use Rattle.operands.specs.clauses.Steps.{kind_is, joins, bangs, closes, place, TokenFits, Standing, AdvancedSays, PastSignSays};
+ghost use Rattle.operands.specs.clauses.Steps.{PastTokenSays, AtomSays, TruthSays, ClosedSays, JoinedSays};
 
-use notation::ceilings::{CODES_ROOM, CONNECTIVES, FLAGS, TRIPLETS_ROOM};
-use notation::place::{
-    COUNT, Connective, KIND, Kind, NEXT, PLACE, SEEN, SIGNS, START, Step, WAITING, refuse,
-};
+use notation::ceilings::{CONNECTIVES, FLAGS, TRIPLETS_ROOM};
+use notation::codes::{Code, place_of};
+use notation::place::{Connective, Kind, Place};
+use notation::refusal::Refused;
 use notation::tokens::token_at;
-use notation::{codes, triplets};
-
-// What a level answers: the literal of the operand that it read. A refusal's number and place stand in the lent place.
-#[derive(Clone, Copy)]
-pub enum Answer {
-    Found(u16),
-    Refused,
-}
-
-// Refused with this number at the token ahead.
-pub fn refused(at: &mut [usize; PLACE], number: usize) -> Answer
-    requires { length at.old ≡ place_room }
-    ensures { RefusedSays number at.old result at.new }
-{
-    let start = at[START];
-    refuse(at, number, start);
-    Answer::Refused
-}
+use notation::triplets;
 
 // One token further.
-pub fn advanced(text: &[u8], at: &mut [usize; PLACE]) -> Step
-    requires at_len { length at.old ≡ place_room }
-    requires token_fits { TokenFits text.now (token_in at.old) }
-    requires at_value { ends (kind_of (get_or at.old 0 0)) ≡ false }
+pub fn advanced(text: &[u8], at: &mut Place) -> Result<(), Refused>
+    requires token_fits { TokenFits text.now at.old.token }
+    requires at_value { ends at.old.token.kind ≡ false }
     ensures { AdvancedSays text.now at.old result at.new }
 {
     token_at(text, at)
 }
 
 // Past a sign, of which there may be no more than the ceiling.
-pub fn past_sign(text: &[u8], at: &mut [usize; PLACE]) -> Step
-    requires at_len { length at.old ≡ place_room }
-    requires token_fits { TokenFits text.now (token_in at.old) }
-    requires at_value { joins (kind_of (get_or at.old 0 0)) ≡ true }
+pub fn past_sign(text: &[u8], at: &mut Place) -> Result<(), Refused>
+    requires token_fits { TokenFits text.now at.old.token }
+    requires at_value { joins at.old.token.kind ≡ true }
     ensures { PastSignSays text.now at.old result at.new }
 {
-    let signs = at[SIGNS];
-    let start = at[START];
-    if CONNECTIVES <= signs {
-        return refuse(at, 8, start);
+    if CONNECTIVES <= at.signs {
+        return Err(at.refuse_ahead(8));
     }
-    at[SIGNS] = signs + 1;
+    at.signs += 1;
     token_at(text, at)
 }
 
-fn sign_number(sign: Connective) -> usize
-    ensures { result ≡ sign_number (sign_of sign) }
+// Whether a sign stands next.
+pub fn sign_follows(at: &Place, sign: Connective) -> bool
+    ensures { result ≡ kind_is (sign_of sign) at.now.token.kind }
 {
-    match sign {
-        Connective::And => 5,
-        Connective::Or => 6,
-        Connective::Implies => 7,
-        Connective::Same => 8,
+    match at.token.kind {
+        Kind::Sign(ahead) => ahead == sign,
+        _ => false,
     }
 }
 
-// Whether a sign stands next.
-pub fn sign_follows(at: &[usize; PLACE], sign: Connective) -> bool
-    ensures { result ≡ kind_is (sign_of sign) (kind_of (get_or at.now 0 0)) }
+pub fn bang_follows(at: &Place) -> bool
+    ensures { result ≡ bangs at.now.token.kind }
 {
-    at[KIND] == sign_number(sign)
+    matches!(at.token.kind, Kind::Bang)
 }
 
-pub fn bang_follows(at: &[usize; PLACE]) -> bool
-    ensures { result ≡ bangs (kind_of (get_or at.now 0 0)) }
+fn closing_follows(at: &Place) -> bool
+    ensures { result ≡ closes at.now.token.kind }
 {
-    at[KIND] == 4
-}
-
-fn closing_follows(at: &[usize; PLACE]) -> bool
-    ensures { result ≡ closes (kind_of (get_or at.now 0 0)) }
-{
-    at[KIND] == 10
+    matches!(at.token.kind, Kind::Closing)
 }
 
 // Two operands joined by a sign: their triplet is written after those of both.
 pub fn joined(
     out: &mut [u16; TRIPLETS_ROOM],
-    at: &mut [usize; PLACE],
+    at: &mut Place,
     sign: Connective,
     left: u16,
     right: u16,
 ) -> u16
-    requires out_len { (length out.old ≡ 3 * connective_ceiling) × (length at.old ≡ place_room) }
-    requires at_bound { get_or at.old 5 0 < connective_ceiling }
+    requires out_len { length out.old ≡ 3 * connective_ceiling }
+    requires at_bound { at.old.count < connective_ceiling }
     requires left_le_literal_ceiling { (left ≤ literal_ceiling) × (right ≤ literal_ceiling) }
-    ensures { JoinedSays (sign_of sign) left right (get_or at.old 7 0)
+    ensures { JoinedSays (sign_of sign) left right
         at.old out.old result at.new out.new }
 {
-    let count = at[COUNT];
+    let count = at.count;
     triplets::write(out, count, sign, left, right);
-    at[COUNT] = count + 1;
+    at.count = count + 1;
     triplets::literal_of(sign, count)
 }
 
-// The literal before a `>` waits for what the sign leads to.
-pub fn set_aside(at: &mut [usize; PLACE], wait: &mut [u16; CONNECTIVES], literal: u16)
-    requires at_len { (length at.old ≡ place_room) × (length wait.old ≡ connective_ceiling) }
-    requires at_bound { get_or at.old 7 0 < connective_ceiling }
-    ensures { SetAside literal at.old wait.old at.new wait.new }
-{
-    let n = at[WAITING];
-    wait[n] = literal;
-    at[WAITING] = n + 1;
-}
-
-// The last literal that waits is joined with what its `>` leads to.
-pub fn join_last(
-    out: &mut [u16; TRIPLETS_ROOM],
-    at: &mut [usize; PLACE],
-    wait: &[u16; CONNECTIVES],
-    right: u16,
-) -> u16
-    requires out_len { (length out.old ≡ 3 * connective_ceiling) × (length at.old ≡ place_room) }
-    requires nonzero { (0 < get_or at.old 7 0) × (get_or at.old 7 0 ≤ connective_ceiling) }
-    requires at_bound { get_or at.old 5 0 < connective_ceiling }
-    requires at_bound_2 { (get_or wait.now (get_or at.old 7 0 - 1) 0 ≤ literal_ceiling) × (right ≤ literal_ceiling) }
-    ensures { JoinedSays implies
-        (get_or wait.now (get_or at.old 7 0 - 1) 0) right (get_or at.old 7 0 - 1)
-        at.old out.old result at.new out.new }
-{
-    let n = at[WAITING] - 1;
-    let left = wait[n];
-    at[WAITING] = n;
-    joined(out, at, Connective::Implies, left, right)
-}
-
 // A literal, once the reader is past its token.
-fn past_token(text: &[u8], at: &mut [usize; PLACE], literal: u16) -> Answer
-    requires at_len { length at.old ≡ place_room }
-    requires token_fits { TokenFits text.now (token_in at.old) }
-    requires at_value { ends (kind_of (get_or at.old 0 0)) ≡ false }
+fn past_token(text: &[u8], at: &mut Place, literal: u16) -> Result<u16, Refused>
+    requires token_fits { TokenFits text.now at.old.token }
+    requires at_value { ends at.old.token.kind ≡ false }
     ensures { PastTokenSays text.now at.old literal result at.new }
 {
     let moved = advanced(text, at);
-    let Step::Taken = moved else {
-        return Answer::Refused;
+    let Ok(()) = moved else {
+        return Err(Refused);
     };
-    Answer::Found(literal)
+    Ok(literal)
 }
 
 // A code: a flag that is known, or a new one.
-pub fn code_operand(text: &[u8], at: &mut [usize; PLACE], codes: &mut [usize; CODES_ROOM]) -> Answer
-    requires at_len { length at.old ≡ place_room }
+pub fn code_operand(text: &[u8], at: &mut Place, codes: &mut [Code; FLAGS]) -> Result<u16, Refused>
     requires standing { Standing text.now codes.old (place at.old) }
-    requires at_value { kind_of (get_or at.old 0 0) ≡ Kind.Code }
+    requires at_value { at.old.token.kind ≡ Kind.Code }
     ensures { AtomSays text.now at.old codes.old result at.new codes.new }
 {
-    let start = at[START];
-    let next = at[NEXT];
-    let flags = at[SEEN];
-    let key = codes::key_of(text, start, next);
-    let place = codes::place_of(text, codes, flags, start, next, key);
+    let code = Code::at(text, at.token.start, at.token.next);
+    let flags = at.flags;
+    let place = place_of(text, codes, flags, code);
     if place < flags {
         return past_token(text, at, flag_literal(place));
     }
     if FLAGS <= flags {
-        return refused(at, 7);
+        return Err(at.refuse_ahead(7));
     }
-    codes::enter(codes, flags, start, next, key);
-    at[SEEN] = flags + 1;
+    codes[flags] = code;
+    at.flags = flags + 1;
     past_token(text, at, flag_literal(place))
 }
 
@@ -189,10 +125,9 @@ fn flag_literal(place: usize) -> u16
 }
 
 // `#0` or `#1`.
-pub fn truth_operand(text: &[u8], at: &mut [usize; PLACE], truth: bool) -> Answer
-    requires at_len { length at.old ≡ place_room }
-    requires token_fits { TokenFits text.now (token_in at.old) }
-    requires at_value { kind_of (get_or at.old 0 0) ≡ Kind.Truth truth }
+pub fn truth_operand(text: &[u8], at: &mut Place, truth: bool) -> Result<u16, Refused>
+    requires token_fits { TokenFits text.now at.old.token }
+    requires at_value { at.old.token.kind ≡ Kind.Truth truth }
     ensures { TruthSays text.now at.old result at.new }
 {
     if truth {
@@ -202,15 +137,13 @@ pub fn truth_operand(text: &[u8], at: &mut [usize; PLACE], truth: bool) -> Answe
 }
 
 // Past the bracket that closes a guard.
-pub fn closed(text: &[u8], at: &mut [usize; PLACE]) -> Step
-    requires at_len { length at.old ≡ place_room }
-    requires token_fits { TokenFits text.now (token_in at.old) }
-    requires at_value { joins (kind_of (get_or at.old 0 0)) ≡ false }
+pub fn closed(text: &[u8], at: &mut Place) -> Result<(), Refused>
+    requires token_fits { TokenFits text.now at.old.token }
+    requires at_value { joins at.old.token.kind ≡ false }
     ensures { ClosedSays text.now at.old result at.new }
 {
-    let start = at[START];
     if closing_follows(at) {
         return advanced(text, at);
     }
-    refuse(at, 5, start)
+    Err(at.refuse_ahead(5))
 }

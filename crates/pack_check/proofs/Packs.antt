@@ -5,6 +5,7 @@ use mathlib.Core.List.{List}
 use native.Mathlib.Omega.{arith}
 use lib.ListN.{length}
 use borrow.Author.Tests.{le-leb, lt-leb}
+use Rattle.notation.specs.declared.codes.Code.{Code}
 use Rattle.notation.specs.Ceilings.{connective_ceiling}
 use Rattle.notation.specs.Refusals.{fault}
 use Rattle.notation.specs.declared.refusal.Refusal.{Refusal}
@@ -36,7 +37,7 @@ pub too-deep : (file : List ℕ) (depth : ℕ) → depth_ceiling < depth → (f 
 too-deep file depth d f e = says file depth (refusal (fault 2 0)) _ (asks-deep file depth d) (ap Err e)
 
 -- the refusal that reading answered is that of the pack
-refusal-found : (file : List ℕ) (x : PackReading) (r : Pack) (codes pool spans : List ℕ) → PackSays file x r codes pool spans → (f : Refusal)
+refusal-found : (file : List ℕ) (x : PackReading) (r : Pack) (codes : List Code) (pool spans : List ℕ) → PackSays file x r codes pool spans → (f : Refusal)
     → r ≡ Err f → x ≡ refusal f
 refusal-found file (refusal h) r codes pool spans s f e =
     let a : r ≡ Err h = s in
@@ -55,7 +56,7 @@ pub record LineFound (file : List ℕ) (x : PackReading) (found : Line) (pool sp
   pub held : LineHeld (length its.flags) its.rule its.variants spans pool
   pub rooms : (length pool ≡ 3 * connective_ceiling) × (length spans ≡ spans_room)
 
-pub line-found : (file : List ℕ) (x : PackReading) (r : Pack) (codes pool spans : List ℕ) → PackSays file x r codes pool spans → (found : Line)
+pub line-found : (file : List ℕ) (x : PackReading) (r : Pack) (codes : List Code) (pool spans : List ℕ) → PackSays file x r codes pool spans → (found : Line)
     → r ≡ Ok found → LineFound file x found pool spans
 line-found file (refusal h) r codes pool spans s found e =
     let a : r ≡ Err h = s in
@@ -85,7 +86,7 @@ found-stands file x found pool spans f =
 
 module _ (file : List ℕ) (depth : ℕ) (d : depth ≤ depth_ceiling) where
   -- a refusal of the pack is passed on
-  pub refused-too : (r : Pack) (codes pool spans : List ℕ) → PackSays file (pack_read file) r codes pool spans → (f : Refusal)
+  pub refused-too : (r : Pack) (codes : List Code) (pool spans : List ℕ) → PackSays file (pack_read file) r codes pool spans → (f : Refusal)
       → r ≡ Err f → PackChecked file depth (Err f)
   refused-too r codes pool spans s f e =
       says file depth (refusal f) _ (asks-pack file depth d ∙ refusal-found file (pack_read file) r codes pool spans s f e) refl

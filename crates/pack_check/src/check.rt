@@ -8,7 +8,8 @@ ghost use Rattle.pack_check.specs.clauses.Asking.{Stands, LineAnswered};
 use crate::asking::{ask_pairs, ask_whole};
 use crate::verdict::LineVerdict;
 use guard_check::check::DEPTH;
-use notation::ceilings::{CODES_ROOM, TRIPLETS_ROOM};
+use notation::ceilings::{FLAGS, TRIPLETS_ROOM};
+use notation::codes::Code;
 use notation::refusal::{Refusal, fault};
 use packs::read::read_pack;
 use questions::SPANS_ROOM;
@@ -38,7 +39,7 @@ pub fn check_pack(pack: &[u8], depth: u64) -> Result<LineVerdict, Refusal>
     if DEPTH < depth {
         return Err(fault(2, 0));
     }
-    let mut codes = [0usize; CODES_ROOM];
+    let mut codes = [Code::NONE; FLAGS];
     let mut pool = [0u16; TRIPLETS_ROOM];
     let mut spans = [0usize; SPANS_ROOM];
     let line = read_pack(pack, &mut codes, &mut pool, &mut spans)?;

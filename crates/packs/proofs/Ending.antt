@@ -16,6 +16,7 @@ use Rattle.notation.specs.Ceilings.{connective_ceiling}
 use Rattle.notation.specs.Guard.{connectives}
 use Rattle.notation.specs.Triplets.{literal, triplets, numbers}
 use Rattle.notation.specs.clauses.Codes.{flags_in, InText}
+use Rattle.notation.specs.declared.codes.Code.{Code}
 use Rattle.notation.specs.Refusals.{fault}
 use Rattle.notation.specs.declared.refusal.Refusal.{Refusal}
 use Rattle.notation.proofs.Coding.{flags-length}
@@ -52,7 +53,8 @@ ends_there file at h =
     not_end true x y z q = let w : ◌≡◌ {A = ℕ} 0 1 = cc in omega arith
     not_end false x y z q = let w : ◌≡◌ {A = ℕ} 0 1 = cc in omega arith
 
-end_by : (file codes pool spans : List ℕ) (p : Progress) (g : Going file codes pool spans p) → length file ≤ p.at → (d : Due) → p.due ≡ d
+end_by : (file : List ℕ) (codes : List Code) (pool spans : List ℕ) (p : Progress) (g : Going file codes pool spans p) → length file ≤ p.at →
+    (d : Due) → p.due ≡ d
     → fields_say file ≡ end_as d g.line p.at → StepSays file p (end_step d p.at) codes pool spans
 unfolding end_as
 end_by file codes pool spans p g b due.Id x m = m
@@ -62,7 +64,8 @@ end_by file codes pool spans p g b due.Text x m = m
 end_by file codes pool spans p g b due.VariantOrEnd x m =
     record { line = g.line; taken = g.taken; due = x; means = m; ends = omega (arith, g.taken.inside) }
 
-module _ (file codes pool spans : List ℕ) (p : Progress) (g : Going file codes pool spans p) (f : Field) (q : f ≡ field_at file p.at) where
+module _ (file : List ℕ) (codes : List Code) (pool spans : List ℕ) (p : Progress) (g : Going file codes pool spans p) (f : Field)
+    (q : f ≡ field_at file p.at) where
   says : FieldSays file p.at f
   says = rw q (here file p.at g.taken.inside)
 
@@ -79,7 +82,7 @@ module _ (file codes pool spans : List ℕ) (p : Progress) (g : Going file codes
   end-says h = end_by file codes pool spans p g (ends_there file p.at (sym q ∙ h)) p.due refl (at-end h)
 
 -- ---- the line at the end
-module _ (file codes pool spans : List ℕ) (p : Progress) (w : Whole file codes pool spans p) where
+module _ (file : List ℕ) (codes : List Code) (pool spans : List ℕ) (p : Progress) (w : Whole file codes pool spans p) where
   last : Stage due.VariantOrEnd w.line
   last = rw w.due at w.taken.stage
 
@@ -126,7 +129,7 @@ module _ (file codes pool spans : List ℕ) (p : Progress) (w : Whole file codes
   line-says h r q = rw (w.means, fit, le-leb (p.total + p.variants) connective_ceiling h) (line_read h r q)
 
 -- ---- the start, and a refusal on the way
-pub starts : (file codes pool spans spans' : List ℕ) → Rooms codes pool spans → Noted 0 0 0 0 spans spans'
+pub starts : (file : List ℕ) (codes : List Code) (pool spans spans' : List ℕ) → Rooms codes pool spans → Noted 0 0 0 0 spans spans'
     → Going file codes pool spans' (further_to 0 due.Id 0 0 0)
 unfolding connectives flags_in sum_of literal triplets numbers
 starts file codes pool spans spans' o w = record {
@@ -152,13 +155,13 @@ starts file codes pool spans spans' o w = record {
     first zero b = record { within = tt; count = w.count; root = w.root; inside = omega (arith, w.off); stands = refl }
     first (suc k) b = absurd (omega arith)
 
-pub refused_says : (file codes pool spans : List ℕ) (f : Refusal) → fields_say file ≡ refusal f
+pub refused_says : (file : List ℕ) (codes : List Code) (pool spans : List ℕ) (f : Refusal) → fields_say file ≡ refusal f
     → PackSays file (pack_read file) (Err f) codes pool spans
 unfolding pack_read fitting
 refused_says file codes pool spans f h = rw h refl
 
 -- ---- a step's answer taken apart
-module _ (file : List ℕ) (p : Progress) (r : Step) (codes pool spans : List ℕ) (h : StepSays file p r codes pool spans) where
+module _ (file : List ℕ) (p : Progress) (r : Step) (codes : List Code) (pool spans : List ℕ) (h : StepSays file p r codes pool spans) where
   pub on_of : (q : Progress) → r ≡ (Ok (Some q)) → Going file codes pool spans q × (p.at < q.at)
   on_of q x = rw x at h
 

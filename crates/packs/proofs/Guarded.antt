@@ -12,6 +12,7 @@ use Rattle.notation.specs.Walk.{Flag}
 use Rattle.notation.specs.Guard.{Guard, connectives}
 use Rattle.notation.specs.Triplets.{literal}
 use Rattle.notation.specs.clauses.Codes.{codes_room, flags_in, InText}
+use Rattle.notation.specs.declared.codes.Code.{Code}
 use Rattle.notation.specs.Reading as read
 use Rattle.notation.specs.Reading.{Reading, reading_from}
 use Rattle.notation.specs.declared.refusal.Refusal.{Refusal}
@@ -25,7 +26,7 @@ use Rattle.packs.specs.clauses.Says.{GuardAsks, GuardTaken, GuardTakenSays}
 use Rattle.packs.proofs.Longer.{fewer}
 
 -- ---- what the answer says
-module _ (file : List ℕ) (e row total : ℕ) (r : Parsed) (pool spans codes' pool' spans' : List ℕ) where
+module _ (file : List ℕ) (e row total : ℕ) (r : Parsed) (pool spans : List ℕ) (codes' : List Code) (pool' spans' : List ℕ) where
   abbrev pub Answers : Reading → Type 0
   Answers R = GuardTakenSays R file e row total r pool spans codes' pool' spans'
 
@@ -61,7 +62,7 @@ module _ (file : List ℕ) (e row total : ℕ) (r : Parsed) (pool spans codes' p
 
 -- ---- what reading it does
 -- what the reader of a guard asks, from any place of it before its end, and with any of the codes seen
-pub parse-asks : (file : List ℕ) (s e flags total row : ℕ) (codes pool spans : List ℕ) → GuardAsks file s e flags total row codes pool spans
+pub parse-asks : (file : List ℕ) (s e flags total row : ℕ) (codes : List Code) (pool spans : List ℕ) → GuardAsks file s e flags total row codes pool spans
     → (from : ℕ) → from ≤ s → (n : ℕ) → n ≤ flags
     → ((length codes ≡ codes_room) × (◌≡◌ {A = ℕ} (3 * connective_ceiling) (3 * connective_ceiling)))
     × (((from ≤ length (take (e - 0) file)) × (n ≤ flag_ceiling)) × InText (take (e - 0) file) codes n)
@@ -70,7 +71,7 @@ parse-asks file s e flags total row codes pool spans a from b n h =
     rw (sub-zero e)
     ((a.rooms.codes, refl), ((omega (arith, long, a.starts), omega (arith, a.few)), fewer (take e file) codes n flags h a.in_text))
 
-module _ (file : List ℕ) (e row total s n : ℕ) (codes codes' out : List ℕ) (r : Parsed) where
+module _ (file : List ℕ) (e row total s n : ℕ) (codes codes' : List Code) (out : List ℕ) (r : Parsed) where
   pub parsed-small : (R : Reading) (text : List ℕ) → ParseSays text R r codes' out → (q : numbers.Guard) → r ≡ Ok q
       → (q.count ≤ connective_ceiling) × (length out ≡ 3 * connective_ceiling)
   parsed-small (read.refusal k d) text h q x = let z : ◌≡◌ {A = ℕ} 0 1 = cc in absurd (omega arith)

@@ -6,6 +6,7 @@ use mathlib.Core.List.{List, [], ◌∷◌}
 use lib.ListN.{length, take, drop}
 use lib.Seq.{take-take, length-take-le}
 use Rattle.notation.specs.clauses.Codes.{start_of, end_of, key_of, flags_in, InText}
+use Rattle.notation.specs.declared.codes.Code.{Code}
 use Rattle.notation.specs.clauses.Cut.{part}
 
 -- what stands in the first bytes stands in the list
@@ -16,7 +17,7 @@ inner (suc s) k (suc m) [] h = refl
 inner (suc s) k (suc m) (x ∷ l) h = inner s k m l (omega arith)
 
 -- a table of codes is one of fewer
-pub fewer : (text codes : List ℕ) (n m : ℕ) → n ≤ m → InText text codes m → InText text codes n
+pub fewer : (text : List ℕ) (codes : List Code) (n m : ℕ) → n ≤ m → InText text codes m → InText text codes n
 fewer text codes n m h t = record {
   room = omega (arith, t.room);
   starts = λ j b. t.starts j (omega arith);
@@ -24,7 +25,7 @@ fewer text codes n m h t = record {
   keys = λ j b. t.keys j (omega arith);
 }
 
-module _ (file codes : List ℕ) (at e : ℕ) (h : at ≤ e) (i : e ≤ length file) where
+module _ (file : List ℕ) (codes : List Code) (at e : ℕ) (h : at ≤ e) (i : e ≤ length file) where
   same-part : (s t : ℕ) → s ≤ t → t ≤ at → part s t (take e file) ≡ part s t (take at file)
   same-part s t a b = inner s (t - s) e file (omega arith) ∙ sym (inner s (t - s) at file (omega arith))
 

@@ -10,6 +10,7 @@ use Rattle.ground.proofs.Cases.{lt-or-ge}
 use Rattle.notation.specs.Ceilings.{connective_ceiling}
 use Rattle.notation.specs.Guard.{connectives}
 use Rattle.notation.specs.clauses.Codes.{flags_in}
+use Rattle.notation.specs.declared.codes.Code.{Code}
 use Rattle.notation.specs.Reading.{reading_from}
 use Rattle.notation.specs.Refusals.{fault}
 use Rattle.notation.specs.declared.refusal.Refusal.{Refusal}
@@ -29,7 +30,7 @@ use Rattle.packs.proofs.Stages.{wrong-step, empty-step, long-step, full-step, ru
 use Rattle.packs.proofs.Taking.{further_to, taken_refused, taken-id, taken-text, taken-rule, taken-variant}
 use Rattle.packs.proofs.Guarded.{says-refused, says-guard}
 
-module _ (file codes pool spans : List ℕ) (p : Progress) (ro : Role) (s e : ℕ) (a : StepAsks file codes pool spans p ro s e) where
+module _ (file : List ℕ) (codes : List Code) (pool spans : List ℕ) (p : Progress) (ro : Role) (s e : ℕ) (a : StepAsks file codes pool spans p ro s e) where
   onward : p.at < e
   onward = omega (arith, a.field.here.starts, a.field.here.later)
 
@@ -60,12 +61,12 @@ module _ (file codes pool spans : List ℕ) (p : Progress) (ro : Role) (s e : �
   adds c h = omega (arith, a.going.taken.small, a.going.taken.most)
 
 -- the numbers of the guard that was read are the tree's
-on-as : (file : List ℕ) (p : Progress) (e : ℕ) (d : Due) (v n n' c c' : ℕ) (codes pool spans : List ℕ) → n ≡ n' → c ≡ c'
+on-as : (file : List ℕ) (p : Progress) (e : ℕ) (d : Due) (v n n' c c' : ℕ) (codes : List Code) (pool spans : List ℕ) → n ≡ n' → c ≡ c'
     → StepSays file p (Ok (Some (further_to e d n' v (p.total + c')))) codes pool spans
     → StepSays file p (Ok (Some (further_to e d n v (p.total + c)))) codes pool spans
 on-as file p e d v n n' c c' codes pool spans x y h = rw (x, y) h
 
-module _ (file codes pool spans : List ℕ) (p : Progress) (s e : ℕ) where
+module _ (file : List ℕ) (codes : List Code) (pool spans : List ℕ) (p : Progress) (s e : ℕ) where
   pub wrong-says : StepAsks file codes pool spans p is.Wrong s e → fields_say file ≡ refusal (fault 13 p.at)
   wrong-says a = refuses file codes pool spans p is.Wrong s e a (fault 13 p.at) (wrong-step file a.going.line p.at s e)
 
@@ -101,7 +102,7 @@ module _ (file codes pool spans : List ℕ) (p : Progress) (s e : ℕ) where
       onward file codes pool spans p is.Text s e a,
     )
 
-  module _ (r : Parsed) (codes' pool' spans' : List ℕ) where
+  module _ (r : Parsed) (codes' : List Code) (pool' spans' : List ℕ) where
     -- what reading the guard of this field answered, as guard `row` of the line
     abbrev Read : ℕ → Type 0
     Read row =

@@ -8,6 +8,7 @@ use mathlib.Core.List.{List, [], ◌∷◌}
 use mathlib.Core.Logic.{⊎_elim}
 use lib.ListN.{length, get_or, take, length-append, get_or-append}
 use lib.Seq.{get_or_at}
+use Rattle.notation.specs.declared.codes.Code.{Code}
 use Rattle.notation.specs.Ceilings.{connective_ceiling}
 use Rattle.notation.specs.Walk.{Flag}
 use Rattle.notation.specs.Guard.{Guard, connectives}
@@ -38,7 +39,7 @@ use Rattle.packs.proofs.Stages.{id-step, rule-step, variant_step, text-step, sta
 abbrev pub further_to : ℕ → Due → ℕ → ℕ → ℕ → Progress
 further_to e d n v t = record { at = e; due = d; flags = n; variants = v; total = t }
 
-module _ (file codes pool spans : List ℕ) (p : Progress) (l : Line) (t : Taken file codes pool spans p l) (tag s e : ℕ)
+module _ (file : List ℕ) (codes : List Code) (pool spans : List ℕ) (p : Progress) (l : Line) (t : Taken file codes pool spans p l) (tag s e : ℕ)
     (f : FieldHere file p.at tag s e) where
   at-s : (n : Next) (r : Role) → role_of p.due tag ≡ r → step_as r file l p.at s e ≡ n
       → step_as (role_of p.due tag) file l p.at (p.at + header) e ≡ n
@@ -129,7 +130,7 @@ module _ (file codes pool spans : List ℕ) (p : Progress) (l : Line) (t : Taken
         upto k b m = omega arith
 
   -- one more guard
-  module _ (g : Guard) (u : List Flag) (is-guard : guard_in file l s e ≡ guard g u) (r : Parsed) (codes' out pool' spans' : List ℕ)
+  module _ (g : Guard) (u : List Flag) (is-guard : guard_in file l s e ≡ guard g u) (r : Parsed) (codes' : List Code) (out pool' spans' : List ℕ)
       (found : GuardRead (take e file) g u r codes' out)
       (kept : KeepSays out (connectives g) p.total pool pool') where
     flags-before : length l.flags ≡ p.flags

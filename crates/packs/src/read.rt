@@ -7,7 +7,8 @@ ghost use Rattle.packs.specs.clauses.Says.{Whole, PackSays};
 use crate::due::Due;
 use crate::pool::note;
 use crate::steps::{Progress, step_on};
-use notation::ceilings::{CODES_ROOM, CONNECTIVES, TRIPLETS_ROOM};
+use notation::ceilings::{CONNECTIVES, FLAGS, TRIPLETS_ROOM};
+use notation::codes::Code;
 use notation::refusal::{Refusal, fault};
 use questions::SPANS_ROOM;
 
@@ -22,7 +23,7 @@ pub struct Line {
 fn closed(
     file: &[u8],
     p: Progress,
-    codes: &[usize; CODES_ROOM],
+    codes: &[Code; FLAGS],
     pool: &[u16; TRIPLETS_ROOM],
     spans: &[usize; SPANS_ROOM],
 ) -> Result<Line, Refusal>
@@ -41,7 +42,7 @@ fn closed(
 // The line of a pack in lent tables, or its refusal. A refusal may have changed them.
 pub fn read_pack(
     file: &[u8],
-    codes: &mut [usize; CODES_ROOM],
+    codes: &mut [Code; FLAGS],
     pool: &mut [u16; TRIPLETS_ROOM],
     spans: &mut [usize; SPANS_ROOM],
 ) -> Result<Line, Refusal>

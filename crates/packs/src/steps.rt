@@ -9,7 +9,8 @@ ghost use Rattle.packs.specs.clauses.Says.{Going, StepAsks, StepSays, GuardAsks,
 use crate::due::{Due, Role, role_of};
 use crate::pool::{keep, note, note_text};
 use fields::{Field, field_at};
-use notation::ceilings::{CODES_ROOM, TRIPLETS_ROOM};
+use notation::ceilings::{FLAGS, TRIPLETS_ROOM};
+use notation::codes::Code;
 use notation::refusal::{Refusal, fault};
 use questions::{SPANS_ROOM, VARIANTS};
 use reading::parse::{Guard, parse_from};
@@ -36,7 +37,7 @@ fn read_guard(
     flags: usize,
     total: usize,
     row: usize,
-    codes: &mut [usize; CODES_ROOM],
+    codes: &mut [Code; FLAGS],
     pool: &mut [u16; TRIPLETS_ROOM],
     spans: &mut [usize; SPANS_ROOM],
 ) -> Result<Guard, Refusal>
@@ -59,7 +60,7 @@ fn id_step(
     p: Progress,
     start: usize,
     end: usize,
-    codes: &[usize; CODES_ROOM],
+    codes: &[Code; FLAGS],
     pool: &[u16; TRIPLETS_ROOM],
     spans: &[usize; SPANS_ROOM],
 ) -> Result<Option<Progress>, Refusal>
@@ -86,7 +87,7 @@ fn rule_step(
     p: Progress,
     start: usize,
     end: usize,
-    codes: &mut [usize; CODES_ROOM],
+    codes: &mut [Code; FLAGS],
     pool: &mut [u16; TRIPLETS_ROOM],
     spans: &mut [usize; SPANS_ROOM],
 ) -> Result<Option<Progress>, Refusal>
@@ -109,7 +110,7 @@ fn variant_step(
     p: Progress,
     start: usize,
     end: usize,
-    codes: &mut [usize; CODES_ROOM],
+    codes: &mut [Code; FLAGS],
     pool: &mut [u16; TRIPLETS_ROOM],
     spans: &mut [usize; SPANS_ROOM],
 ) -> Result<Option<Progress>, Refusal>
@@ -136,7 +137,7 @@ fn text_step(
     p: Progress,
     start: usize,
     end: usize,
-    codes: &[usize; CODES_ROOM],
+    codes: &[Code; FLAGS],
     pool: &[u16; TRIPLETS_ROOM],
     spans: &mut [usize; SPANS_ROOM],
 ) -> Result<Option<Progress>, Refusal>
@@ -171,7 +172,7 @@ fn field_step(
     tag: u8,
     start: usize,
     end: usize,
-    codes: &mut [usize; CODES_ROOM],
+    codes: &mut [Code; FLAGS],
     pool: &mut [u16; TRIPLETS_ROOM],
     spans: &mut [usize; SPANS_ROOM],
 ) -> Result<Option<Progress>, Refusal>
@@ -192,7 +193,7 @@ fn field_step(
 pub fn step_on(
     file: &[u8],
     p: Progress,
-    codes: &mut [usize; CODES_ROOM],
+    codes: &mut [Code; FLAGS],
     pool: &mut [u16; TRIPLETS_ROOM],
     spans: &mut [usize; SPANS_ROOM],
 ) -> Result<Option<Progress>, Refusal>

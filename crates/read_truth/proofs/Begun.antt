@@ -4,6 +4,7 @@ use mathlib.Core.Path.{◌≡◌, ap}
 use mathlib.Core.List.{List}
 use native.Mathlib.Omega.{arith}
 use lib.ListN.{length}
+use Rattle.notation.specs.declared.codes.Code.{Code}
 use Rattle.notation.specs.Ceilings.{connective_ceiling}
 use Rattle.notation.specs.Guard.{connectives}
 use Rattle.notation.specs.Reading.{reading}
@@ -15,7 +16,7 @@ use Rattle.truth.specs.clauses.Written.{Begins}
 use Rattle.truth.proofs.Written.{written-triplets}
 
 -- what parse leaves behind where it answers a guard
-module _ (text : List ℕ) (x : counted.Guard) (codes xs : List ℕ) (f : Found text (reading text) x codes xs) where
+module _ (text : List ℕ) (x : counted.Guard) (codes : List Code) (xs : List ℕ) (f : Found text (reading text) x codes xs) where
   -- there are as many flags as the text has
   pub read_flags : x.flags ≡ length f.flags
   read_flags = ap (λ (y : counted.Guard). y.flags) f.counts

@@ -4,10 +4,11 @@ use native.Mathlib.Omega.{arith}
 use native.Mathlib.Nat.{sub-zero}
 use mathlib.Core.Path.{◌≡◌, refl, sym, ap, subst, ◌∙◌}
 use mathlib.Core.Bool.{Bool, true, false, true≢false}
-use mathlib.Core.List.{List, [], ◌∷◌, ◌++◌}
-use lib.ListN.{length, take, get_or, set}
+use mathlib.Core.List.{List, [], ◌++◌}
+use lib.ListN.{length, take}
+use Rattle.std.specs.Prelude.{Result, Ok, Err}
 use borrow.Author.Tests.{le-leb, lt-leb}
-use Rattle.notation.specs.Ceilings.{text_ceiling, flag_ceiling, connective_ceiling}
+use Rattle.notation.specs.Ceilings.{text_ceiling, connective_ceiling}
 use Rattle.notation.specs.Tokens.{Tokens, tokens, tokens_at}
 use Rattle.ground.specs.Choice.{choose}
 use Rattle.notation.specs.Walk.{Flag, refused, accepted, walk, operand, after}
@@ -17,16 +18,16 @@ use Rattle.notation.specs.Triplets.{literal, triplets, numbers}
 use Rattle.notation.specs.Reading.{Reading, refusal, guard, judged, reading, tree_from, reading_from}
 use Rattle.notation.specs.Tokens as words
 use Rattle.notation.specs.clauses.Cut.{ahead_as, ahead, ends}
-use Rattle.notation.specs.clauses.Codes.{codes_room, flags_in, InText}
-use Rattle.notation.specs.clauses.Place.{place_room, kind_of, token_in, refusal_in, CutSays}
+use Rattle.notation.specs.clauses.Codes.{flags_in, InText}
+use Rattle.notation.specs.declared.codes.Code.{Code}
+use Rattle.notation.specs.clauses.Place.{before, CutSays}
 use Rattle.notation.specs.declared.place.Kind.{Kind}
 use Rattle.notation.specs.declared.place.Kind.TheVariants as kind
-use Rattle.notation.specs.declared.place.Step.{Step}
-use Rattle.notation.specs.declared.place.Step.TheVariants as step
+use Rattle.notation.specs.declared.place.Place.{Place}
+use Rattle.notation.specs.declared.refusal.Refused.{Refused}
 use Rattle.operands.specs.clauses.Steps.{joins, place}
-use Rattle.operands.specs.declared.Answer.{Answer}
-use Rattle.operands.specs.declared.Answer.TheVariants as answer
-use Rattle.levels.specs.clauses.Levels.{plain, operands_at, below_of, part, FoundPart, Asks, Says}
+use Rattle.operands.specs.declared.waiting.Stack.{Stack}
+use Rattle.levels.specs.clauses.Levels.{plain, operands_at, below_of, part, FoundPart, Says}
 use Rattle.reading.specs.Service.{Parsed, refused_with, guard_with}
 use Rattle.reading.specs.clauses.Parsing.{ended_as, ParseSays}
 use Rattle.std.specs.Prelude.{Err}
@@ -69,20 +70,8 @@ not-ended (kind.Sign c) text p e u m h i = absurd (true≢false i)
 not-ended kind.Opening text p e u m h i = refl
 not-ended kind.Closing text p e u m h i = refl
 
--- where the reader stands before the first token: n flags were seen, and nothing else
-pub record Before (from n : ℕ) (p : List ℕ) : Type 0 where
-  pub next : get_or p 2 0 ≡ from
-  pub flags : get_or p 3 0 ≡ n
-  pub signs : get_or p 4 0 ≡ 0
-  pub count : get_or p 5 0 ≡ 0
-  pub waits : get_or p 7 0 ≡ 0
-  pub room : length p ≡ place_room
-
-pub before : (from n : ℕ) → Before from n (set (set (0 ∷ 0 ∷ 0 ∷ 0 ∷ 0 ∷ 0 ∷ 0 ∷ 0 ∷ []) 2 from) 3 n)
-before from n = record { next = refl; flags = refl; signs = refl; count = refl; waits = refl; room = refl }
-
 -- no code was seen before
-pub none_seen : (text codes : List ℕ) → InText text codes 0
+pub none_seen : (text : List ℕ) (codes : List Code) → InText text codes 0
 none_seen text codes = record {
   room = omega arith;
   starts = λ i h. absurd (omega arith);
@@ -90,7 +79,8 @@ none_seen text codes = record {
   keys = λ i h. absurd (omega arith);
 }
 
-pub parsed-whole : (text : List ℕ) (r : Parsed) (codes codes' out' : List ℕ) → ParseSays text (reading_from text 0 (flags_in text codes 0)) r codes'
+pub parsed-whole : (text : List ℕ) (r : Parsed) (codes codes' : List Code) (out' : List ℕ) →
+    ParseSays text (reading_from text 0 (flags_in text codes 0)) r codes'
     out' →
     ParseSays text (reading text) r codes' out'
 unfolding flags_in
@@ -109,94 +99,75 @@ module _ (text : List ℕ) (from : ℕ) (u₀ : List Flag) (h : length text - fr
   walk-accepts u m e = rw (le-leb (length text - from) text_ceiling h, e)
 
   says-refusal : (k p : ℕ) → walk operand 0 u₀ 0 (tokens_at text from) ≡ refused k p → (r : Parsed) → r ≡ refused_with k p
-      → (codes out : List ℕ) →
+      → (codes : List Code) (out : List ℕ) →
       ParseSays text (reading_from text from u₀) r codes out
   says-refusal k p e r f codes out = subst (λ (x : Reading). ParseSays text x r codes out) (sym (walk-refuses k p e)) f
 
-module _ {text : List ℕ} {from n : ℕ} {p p₁ : List ℕ} {s : Step} (b : Before from n p) (c : CutSays text (get_or p 2 0) p s p₁) where
-  -- what the loosest level asks
-  pub asks-first : s ≡ step.Taken → {codes out wait : List ℕ} → n ≤ flag_ceiling → InText text codes n → length codes ≡ codes_room →
-      length out ≡ 3 * connective_ceiling →
-      length wait ≡ connective_ceiling → Asks text p₁ 0 codes out wait
-  asks-first e {codes} few i l o w =
-      let t = c.taken e in
-      let f : get_or p₁ 3 0 ≡ n = c.behind.flags ∙ b.flags in
-      let m : get_or p₁ 4 0 ≡ 0 = c.behind.signs ∙ b.signs in
-      record {
-        rooms = record { numbers = c.behind.room; triplets = o; literals = w };
-        standing = record {
-          token = record { moves = t.moves; inside = t.inside };
-          in_text = subst (λ (k : ℕ). InText text codes k) (sym f) i;
-          table = l;
-          flags = omega (arith, f, few);
-          signs = omega (arith, m);
-          count = omega (arith, c.behind.count, b.count);
-        };
-        waits = omega (arith, c.behind.waits, b.waits);
-        brackets = omega arith;
-      }
+-- the first token is cut from where the reader stands before it
+module _ {text : List ℕ} {from n : ℕ} {p p₁ : Place} {s : Result Unit Refused} (b : p ≡ before from n) (at-p : CutSays text p.token.next p s p₁) where
+  c : CutSays text from (before from n) s p₁
+  c = subst (λ (x : Place). CutSays text x.token.next x s p₁) b at-p
 
-  module _ (h : length text - from ≤ text_ceiling) (codes : List ℕ) where
+  module _ (h : length text - from ≤ text_ceiling) (codes : List Code) where
     -- a faulty first token
-    pub faulty-first : s ≡ step.Refused → {r : Parsed} → r ≡ Err (refusal_in p₁) → (codes' out' : List ℕ) →
+    pub faulty-first : {x : Refused} → s ≡ Err x → {r : Parsed} → r ≡ Err p₁.refusal → (codes' : List Code) (out' : List ℕ) →
         ParseSays text (reading_from text from (flags_in text codes n)) r codes' out'
     faulty-first e {r} q codes' out' =
-        says-refusal text from (flags_in text codes n) h (get_or p₁ 6 0) (get_or p₁ 1 0)
-        (ap (λ (k : ℕ). walk operand 0 (flags_in text codes n) 0 (tokens_at text k)) (sym b.next) ∙ c.refused e operand 0 (flags_in text codes n) 0)
-        r q codes' out'
+        says-refusal text from (flags_in text codes n) h p₁.refusal.number p₁.refusal.place
+        (c.refused _ e operand 0 (flags_in text codes n) 0) r q codes' out'
 
-    module _ (e : s ≡ step.Taken) {out wait : List ℕ} {a : Answer} {p₂ codes₂ out₂ wait₂ : List ℕ}
+    module _ (e : s ≡ Ok tt) {out : List ℕ} {wait : Stack} {a : Result ℕ Refused} {p₂ : Place} {codes₂ : List Code} {out₂ : List ℕ}
+        {wait₂ : Stack}
         (v : Says (plain (left_level words.same (below_of words.same (operands_at 0)))) 0 4 text p₁ codes out wait a p₂ codes₂ out₂ wait₂) where
-      flags-first : get_or p₁ 3 0 ≡ n
-      flags-first = c.behind.flags ∙ b.flags
+      flags-first : p₁.flags ≡ n
+      flags-first = c.behind.flags
 
-      count-first : get_or p₁ 5 0 ≡ 0
-      count-first = c.behind.count ∙ b.count
+      count-first : p₁.count ≡ 0
+      count-first = c.behind.count
 
-      from_first : walk operand 0 (flags_in text codes n) 0 (tokens_at text from) ≡ walk operand 0 (flags_in text codes (get_or p₁ 3 0)) (get_or p₁ 4 0)
-          (ahead text (token_in p₁))
+      from_first : walk operand 0 (flags_in text codes n) 0 (tokens_at text from) ≡ walk operand 0 (flags_in text codes p₁.flags) p₁.signs
+          (ahead text p₁.token)
       from_first =
-          ap (λ (k : ℕ). walk operand 0 (flags_in text codes n) 0 (tokens_at text k)) (sym b.next) ∙ ap (walk operand 0 (flags_in text codes n) 0)
-          (c.taken e).tokens
-          ∙ ap (λ (k : ℕ). walk operand 0 (flags_in text codes k) 0 (ahead text (token_in p₁))) (sym flags-first)
-          ∙ ap (λ (k : ℕ). walk operand 0 (flags_in text codes (get_or p₁ 3 0)) k (ahead text (token_in p₁))) (sym (c.behind.signs ∙ b.signs))
+          ap (walk operand 0 (flags_in text codes n) 0) (c.taken e).tokens
+          ∙ ap (λ (k : ℕ). walk operand 0 (flags_in text codes k) 0 (ahead text p₁.token)) (sym flags-first)
+          ∙ ap (λ (k : ℕ). walk operand 0 (flags_in text codes p₁.flags) k (ahead text p₁.token)) (sym c.behind.signs)
 
       -- a refusal by a level
-      pub refused-first : a ≡ answer.Refused → {r : Parsed} → r ≡ Err (refusal_in p₂) → ParseSays text
+      pub refused-first : {x : Refused} → a ≡ Err x → {r : Parsed} → r ≡ Err p₂.refusal → ParseSays text
           (reading_from text from (flags_in text codes n)) r codes₂ out₂
-      refused-first f {r} q = says-refusal text from (flags_in text codes n) h (get_or p₂ 6 0) (get_or p₂ 1 0) (from_first ∙ v.refused f) r q codes₂ out₂
+      refused-first f {r} q = says-refusal text from (flags_in text codes n) h p₂.refusal.number p₂.refusal.place (from_first ∙ v.refused _ f) r q codes₂ out₂
 
-      module _ {l : ℕ} (found : a ≡ answer.Found l) where
+      module _ {l : ℕ} (found : a ≡ Ok l) where
         f : FoundPart (plain (left_level words.same (below_of words.same (operands_at 0)))) 0 4 text (place p₁) codes out (part l p₂) codes₂ out₂
         f = v.found l found
 
         u : List Flag
-        u = flags_in text codes₂ (get_or p₂ 3 0)
+        u = flags_in text codes₂ p₂.flags
 
         is-tree : tree_from (flags_in text codes n) (tokens_at text from) ≡ f.guard
         unfolding tree_from tree_of same_of implies_of or_of and_of
         is-tree =
-            ap (λ (k : ℕ). tree_from (flags_in text codes n) (tokens_at text k)) (sym b.next) ∙ ap (tree_from (flags_in text codes n)) (c.taken e).tokens
-            ∙ ap (λ (k : ℕ). tree_from (flags_in text codes k) (ahead text (token_in p₁))) (sym flags-first)
+            ap (tree_from (flags_in text codes n)) (c.taken e).tokens
+            ∙ ap (λ (k : ℕ). tree_from (flags_in text codes k) (ahead text p₁.token)) (sym flags-first)
             ∙ ap tree_of (f.reads.parsed connective_ceiling (omega arith))
 
         -- the text ends after the guard, or does not
-        decided : (x : Bool) → ends (kind_of (get_or p₂ 0 0)) ≡ x → (r : Parsed) →
-            r ≡ choose x (guard_with (get_or p₂ 3 0) (get_or p₂ 5 0) l) (refused_with 5 (get_or p₂ 1 0)) → ParseSays text
+        decided : (x : Bool) → ends p₂.token.kind ≡ x → (r : Parsed) →
+            r ≡ choose x (guard_with p₂.flags p₂.count l) (refused_with 5 p₂.token.start) → ParseSays text
             (reading_from text from (flags_in text codes n)) r codes₂ out₂
         unfolding u f
         decided true x r q =
-            let count : get_or p₂ 5 0 ≡ connectives f.guard = omega (arith, f.writes.count, count-first) in
-            let long : length u ≡ get_or p₂ 3 0 = flags-length text codes₂ (get_or p₂ 3 0) in
+            let count : p₂.count ≡ connectives f.guard = omega (arith, f.writes.count, count-first) in
+            let long : length u ≡ p₂.flags = flags-length text codes₂ p₂.flags in
             let root : l ≡ literal 0 f.guard = f.writes.literal ∙ ap (λ (k : ℕ). literal k f.guard) count-first in
             let is : reading_from text from (flags_in text codes n) ≡ guard f.guard u
-            = walk-accepts text from (flags_in text codes n) h u (get_or p₂ 4 0)
-            (from_first ∙ f.reads.walked ∙ ends-accepted (kind_of (get_or p₂ 0 0)) text (get_or p₂ 1 0) (get_or p₂ 2 0) u (get_or p₂ 4 0) x)
+            = walk-accepts text from (flags_in text codes n) h u p₂.signs
+            (from_first ∙ f.reads.walked ∙ ends-accepted p₂.token.kind text p₂.token.start p₂.token.next u p₂.signs x)
             ∙ ap (λ (g : Guard). guard g u) is-tree in
             subst (λ (y : Reading). ParseSays text y r codes₂ out₂) (sym is)
             record {
               answer =
-                  q ∙ ap (λ (k : ℕ). guard_with k (get_or p₂ 5 0) l) (sym long) ∙ ap (λ (k : ℕ). guard_with (length u) k l) count
+                  q ∙ ap (λ (k : ℕ). guard_with k p₂.count l) (sym long) ∙ ap (λ (k : ℕ). guard_with (length u) k l) count
                   ∙ ap (guard_with (length u) (connectives f.guard)) root;
               flags = ap (flags_in text codes₂) long;
               in_text = rw long f.standing.in_text;
@@ -209,10 +180,10 @@ module _ {text : List ℕ} {from n : ℕ} {p p₁ : List ℕ} {s : Step} (b : Be
               room = v.rooms.triplets;
             }
         decided false x r q =
-            says-refusal text from (flags_in text codes n) h 5 (get_or p₂ 1 0)
+            says-refusal text from (flags_in text codes n) h 5 p₂.token.start
             (from_first ∙ f.reads.walked
-            ∙ not-ended (kind_of (get_or p₂ 0 0)) text (get_or p₂ 1 0) (get_or p₂ 2 0) u (get_or p₂ 4 0) x
-            (stops-joins (kind_of (get_or p₂ 0 0)) text (get_or p₂ 1 0) (get_or p₂ 2 0) f.reads.stops)) r q codes₂ out₂
+            ∙ not-ended p₂.token.kind text p₂.token.start p₂.token.next u p₂.signs x
+            (stops-joins p₂.token.kind text p₂.token.start p₂.token.next f.reads.stops)) r q codes₂ out₂
 
         pub parse-says : {r : Parsed} → r ≡ ended_as (part l p₂) → ParseSays text (reading_from text from (flags_in text codes n)) r codes₂ out₂
-        parse-says {r} q = decided (ends (kind_of (get_or p₂ 0 0))) refl r q
+        parse-says {r} q = decided (ends p₂.token.kind) refl r q

@@ -17,6 +17,7 @@ use Rattle.notation.specs.Triplets.{literal}
 use Rattle.notation.specs.Reading.{Reading, refusal, guard, reading}
 use Rattle.notation.specs.clauses.Cut.{part}
 use Rattle.notation.specs.clauses.Codes.{start_of, end_of, flag_at, flags_in, InText}
+use Rattle.notation.specs.declared.codes.Code.{Code}
 use Rattle.std.specs.Prelude.{Ok, Err}
 use Rattle.reading.specs.Service.{Parsed, Named, part_with, refused_with, guard_with, read_answer, room_after, ReadSays, unnamed, name_in, name_answer, part_of}
 use Rattle.reading.specs.clauses.Parsing.{GuardRead, ParseSays, Spans, named_in}
@@ -26,7 +27,7 @@ use Rattle.reading.specs.declared.name.Stretch.{Stretch}
 use Rattle.notation.proofs.Coding.{flags-length, flags-split}
 
 -- what was read, where parse answers a guard
-pub record Found (text : List ℕ) (R : Reading) (x : counted.Guard) (codes out : List ℕ) : Type 0 where
+pub record Found (text : List ℕ) (R : Reading) (x : counted.Guard) (codes : List Code) (out : List ℕ) : Type 0 where
   pub tree : Guard
   pub flags : List Flag
   pub says : R ≡ guard tree flags
@@ -34,7 +35,7 @@ pub record Found (text : List ℕ) (R : Reading) (x : counted.Guard) (codes out 
   pub counts : x ≡ record { flags = length flags; count = connectives tree; root = literal 0 tree }
 
 -- where parse answers a guard, the text says one, and the tables hold it
-pub guard-found : (text : List ℕ) (R : Reading) (r : Parsed) (codes out : List ℕ) → ParseSays text R r codes out → (x : counted.Guard) → r
+pub guard-found : (text : List ℕ) (R : Reading) (r : Parsed) (codes : List Code) (out : List ℕ) → ParseSays text R r codes out → (x : counted.Guard) → r
     ≡ Ok x → Found text R x codes out
 guard-found text (refusal k p) r codes out s x e = let z : ◌≡◌ {A = ℕ} 0 1 = cc in absurd (omega arith)
 guard-found text (guard g u) r codes out s x e =
@@ -47,7 +48,7 @@ guard-found text (guard g u) r codes out s x e =
     }
 
 -- where parse refuses, so does the text
-pub refusal-found : (text : List ℕ) (R : Reading) (r : Parsed) (codes out : List ℕ) → ParseSays text R r codes out → (f : Refusal) → r
+pub refusal-found : (text : List ℕ) (R : Reading) (r : Parsed) (codes : List Code) (out : List ℕ) → ParseSays text R r codes out → (f : Refusal) → r
     ≡ Err f → R ≡ refusal f.number f.place
 refusal-found text (refusal k p) r codes out s f e =
     let a : r ≡ refused_with k p = s in
@@ -72,7 +73,7 @@ pub read-refused : (text room : List ℕ) (f : Refusal) → reading text ≡ ref
 unfolding read_answer room_after
 read-refused text room f h = record { answer = rw h; left = rw h }
 
-module _ (text room : List ℕ) (x : counted.Guard) (codes out : List ℕ) (f : Found text (reading text) x codes out) where
+module _ (text room : List ℕ) (x : counted.Guard) (codes : List Code) (out : List ℕ) (f : Found text (reading text) x codes out) where
   count-is : x.count ≡ connectives f.tree
   count-is = rw f.counts
 
@@ -97,7 +98,7 @@ module _ (text room : List ℕ) (x : counted.Guard) (codes out : List ℕ) (f : 
       }
 
 -- ---- name
-pub spans : (text : List ℕ) (x : counted.Guard) (codes out : List ℕ) → Found text (reading text) x codes out → Spans codes x.flags
+pub spans : (text : List ℕ) (x : counted.Guard) (codes : List Code) (out : List ℕ) → Found text (reading text) x codes out → Spans codes x.flags
 spans text x codes out f =
     let k : x.flags ≡ length f.flags = rw f.counts in
     rw k (record { room = f.read.in_text.room; starts = f.read.in_text.starts })
@@ -125,7 +126,7 @@ part_length : (text : List ℕ) (s e : ℕ) → s ≤ e → e ≤ length text �
 part_length text s e a b = length-take-le (e - s) (drop s text) (rw length-drop (omega arith))
 
 -- the table's parts are those where its flags first stand
-pub name-same : (text codes : List ℕ) (k i : ℕ) → InText text codes k → named_in codes k i ≡ name_in (flags_in text codes k) i
+pub name-same : (text : List ℕ) (codes : List Code) (k i : ℕ) → InText text codes k → named_in codes k i ≡ name_in (flags_in text codes k) i
 name-same text codes k zero t = sym (name-zero (flags_in text codes k))
 name-same text codes k (suc j) t =
     let m : suc j - 1 ≡ j = omega arith in
@@ -151,7 +152,7 @@ pub name-refused : (text : List ℕ) (i : ℕ) (f : Refusal) → reading text �
 unfolding name_answer
 name-refused text i f e = rw e
 
-pub name-found : (text : List ℕ) (i : ℕ) (x : counted.Guard) (codes out : List ℕ) → Found text (reading text) x codes out → named_in codes x.flags
+pub name-found : (text : List ℕ) (i : ℕ) (x : counted.Guard) (codes : List Code) (out : List ℕ) → Found text (reading text) x codes out → named_in codes x.flags
     i ≡ name_answer (reading text) i
 unfolding name_answer
 name-found text i x codes out f =

@@ -5,7 +5,8 @@ ghost use Rattle.reading.specs.Service.{name_answer, part_of};
 ghost use Rattle.reading.specs.clauses.Parsing.{Spans, named_in};
 
 use crate::parse::parse;
-use notation::ceilings::{CODES_ROOM, TRIPLETS_ROOM};
+use notation::ceilings::{FLAGS, TRIPLETS_ROOM};
+use notation::codes::Code;
 use notation::refusal::Refusal;
 
 // The part of a text that is a flag's code, by its first byte and length.
@@ -22,7 +23,7 @@ const UNNAMED: Refusal = Refusal {
 };
 
 // The code of flag i, counted from 1, in the table of codes.
-fn named_at(codes: &[usize], flags: usize, i: u64) -> Result<Stretch, Refusal>
+fn named_at(codes: &[Code], flags: usize, i: u64) -> Result<Stretch, Refusal>
     requires { Spans codes.now flags }
     ensures { result ≡ named_in codes.now flags i }
 {
@@ -33,11 +34,10 @@ fn named_at(codes: &[usize], flags: usize, i: u64) -> Result<Stretch, Refusal>
         return Err(UNNAMED);
     }
     let place = (i - 1) as usize;
-    let start = codes[2 * place];
-    let next = codes[2 * place + 1];
+    let code = codes[place];
     Ok(Stretch {
-        start,
-        len: next - start,
+        start: code.start,
+        len: code.next - code.start,
     })
 }
 
@@ -45,7 +45,7 @@ fn named_at(codes: &[usize], flags: usize, i: u64) -> Result<Stretch, Refusal>
 pub fn name(text: &[u8], i: u64) -> Result<Stretch, Refusal>
     ensures { result ≡ name_answer (reading text.now) i }
 {
-    let mut codes = [0usize; CODES_ROOM];
+    let mut codes = [Code::NONE; FLAGS];
     let mut out = [0u16; TRIPLETS_ROOM];
     let guard = parse(text, &mut codes, &mut out)?;
     named_at(&codes, guard.flags, i)

@@ -8,6 +8,7 @@ use mathlib.Core.Logic.{inl, inr, ⊎_elim}
 use lib.ListN.{length}
 use lib.Dec.{leb, ltb}
 use lib.Pow.{pow-lt}
+use Rattle.notation.specs.declared.codes.Code.{Code}
 use Rattle.notation.specs.Ceilings.{flag_ceiling, connective_ceiling}
 use Rattle.notation.specs.Triplets.{negation}
 use Rattle.notation.specs.Reading.{refusal, reading}
@@ -151,7 +152,7 @@ module _ (text : List ℕ) (state : ℕ) where
   pub explains-refusal : (f : Refusal) → reading text ≡ refusal f.number f.place → Explains (reading text) state (Err f)
   explains-refusal f e = rw e refl
 
-  module _ (x : counted.Guard) (codes xs : List ℕ) (f : serving.Found text (reading text) x codes xs) where
+  module _ (x : counted.Guard) (codes : List Code) (xs : List ℕ) (f : serving.Found text (reading text) x codes xs) where
     pub explains-no-state : ltb state (2 ^ x.flags) ≡ false → (k : Refusal) → k ≡ fault 9 0 → Explains (reading text) state (Err k)
     explains-no-state h k e =
         let late : ltb state (2 ^ length f.flags) ≡ false = rw (read_flags text x codes xs f) at h in

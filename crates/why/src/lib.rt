@@ -13,7 +13,8 @@ ghost use Rattle.why.specs.clauses.Keeping.{none_found, Decides, Turned, Keeping
 use freeing::some::fix_some;
 use freeing::triplet::negated;
 use gaps::writing::Found;
-use notation::ceilings::{CODES_ROOM, TRIPLETS_ROOM, VARIABLES};
+use notation::ceilings::{FLAGS, TRIPLETS_ROOM, VARIABLES};
+use notation::codes::Code;
 use notation::refusal::{Refusal, fault};
 use reading::parse::parse;
 use search::search;
@@ -82,7 +83,7 @@ fn kept_flags(xs: &[u16], count: usize, root: u16, n: usize, state: u64) -> u64
 pub fn why(text: &[u8], state: u64) -> Result<u64, Refusal>
     ensures { Explains (reading text.now) state result }
 {
-    let mut codes = [0usize; CODES_ROOM];
+    let mut codes = [Code::NONE; FLAGS];
     let mut triplets = [0u16; TRIPLETS_ROOM];
     let guard = parse(text, &mut codes, &mut triplets)?;
     if !is_state(state, guard.flags) {

@@ -2,6 +2,7 @@
 use Rattle.std.specs.Prelude.{ℕ, ◌+◌, ◌*◌, ◌≤◌, ◌<◌, ◌≡◌, List, ◌++◌, length, take, drop}
 use Rattle.notation.specs.Ceilings.{code_ceiling, flag_ceiling}
 use Rattle.notation.specs.clauses.Codes.{code_in, InText}
+use Rattle.notation.specs.declared.codes.Code.{Code}
 
 -- the bytes stand in the slice from a place on, up to r; what stood before and behind them still does
 pub record Puts (before : List ℕ) (place : ℕ) (bytes after : List ℕ) (r : ℕ) : Type 0 where
@@ -15,7 +16,7 @@ pub record PutsIn (room : ℕ) (before : List ℕ) (place : ℕ) (bytes after : 
   pub within : r ≤ place + room
 
 -- a table of k codes of a text, all within their ceilings
-pub record CodeTable (text codes : List ℕ) (k : ℕ) : Type 0 where
+pub record CodeTable (text : List ℕ) (codes : List Code) (k : ℕ) : Type 0 where
   pub in_text : InText text codes k
   pub few : k ≤ flag_ceiling
   pub short : (i : ℕ) → i < k → length (code_in text codes i) ≤ code_ceiling

@@ -9,23 +9,22 @@ use Rattle.notation.specs.declared.place.Connective.{Connective}
 use Rattle.notation.specs.declared.place.Connective.TheVariants as connective
 use Rattle.notation.specs.declared.place.Kind.{Kind}
 use Rattle.notation.specs.declared.place.Kind.TheVariants as kind
+use Rattle.notation.specs.declared.place.Token.{Token}
+use Rattle.notation.specs.declared.tokens.Class.{Class}
+use Rattle.notation.specs.declared.tokens.Class.TheVariants as class
 
--- a token: what it is, its first byte's place and the place after its last
-pub record Token : Type 0 where
-  pub kind : Kind
-  pub start : ℕ
-  pub next : ℕ
-
--- what a byte can be the first of, as a number: 1 a space, 2 a code, 3 `#`, 4 to 10 a token of one byte, 0 nothing
-unfoldable pub class_of : ℕ → ℕ
+-- what a byte can be the first of
+unfoldable pub class_of : ℕ → Class
 class_of b =
-    choose (eqb b 32) 1
-    (choose (code_byte b) 2
-    (choose (eqb b 35) 3
-    (choose (eqb b 33) 4
-    (choose (eqb b 38) 5
-    (choose (eqb b 124) 6
-    (choose (eqb b 62) 7 (choose (eqb b 61) 8 (choose (eqb b 40) 9 (choose (eqb b 41) 10 0)))))))))
+    choose (eqb b 32) class.Space
+    (choose (code_byte b) class.Code
+    (choose (eqb b 35) class.Hash
+    (choose (eqb b 33) (class.Mark kind.Bang)
+    (choose (eqb b 38) (class.Mark (kind.Sign connective.And))
+    (choose (eqb b 124) (class.Mark (kind.Sign connective.Or))
+    (choose (eqb b 62) (class.Mark (kind.Sign connective.Implies))
+    (choose (eqb b 61) (class.Mark (kind.Sign connective.Same))
+    (choose (eqb b 40) (class.Mark kind.Opening) (choose (eqb b 41) (class.Mark kind.Closing) class.Stray)))))))))
 
 -- the bytes of a text from place s up to place e
 abbrev pub part : ℕ → ℕ → List ℕ → List ℕ
@@ -75,7 +74,7 @@ pub record CodeEnd (text : List ℕ) (from r : ℕ) : Type 0 where
   pub inside : r ≤ length text
 
 -- a byte of the class k, which is no space, stands at a place
-pub record Starts (text : List ℕ) (start k : ℕ) : Type 0 where
+pub record Starts (text : List ℕ) (start : ℕ) (k : Class) : Type 0 where
   pub inside : start < length text
   pub class : class_of (get_or text start 0) ≡ k
   pub no_space : get_or text start 0 ≡ 32 → ⊥

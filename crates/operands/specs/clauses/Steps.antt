@@ -1,5 +1,5 @@
 -- What a step of the reader over its lent place promises, and what an operand of one token does.
-use Rattle.std.specs.Prelude.{ℕ, suc, ◌+◌, ◌≤◌, ◌<◌, ◌≡◌, Bool, true, false, List, [], length, get_or}
+use Rattle.std.specs.Prelude.{ℕ, suc, ◌+◌, ◌-◌, ◌≤◌, ◌<◌, ◌≡◌, Bool, true, false, List, [], length, get_or, Result, Ok, Err}
 use Rattle.notation.specs.Ceilings.{flag_ceiling, connective_ceiling}
 use Rattle.notation.specs.Tokens as tokens
 use Rattle.notation.specs.Tokens.{Sign}
@@ -8,15 +8,15 @@ use Rattle.notation.specs.Guard.{Guard, connectives}
 use Rattle.notation.specs.Grammar.{Level, found, past, same_sign, closed, operand_of}
 use Rattle.notation.specs.Triplets.{literal, triplets, triplet_of, triplet_variable, literal_of, literal_ceiling}
 use Rattle.notation.specs.clauses.Writing.{triplet_at}
-use Rattle.notation.specs.clauses.Cut.{Token, ahead, ends, sign_of, FaultyHere}
+use Rattle.notation.specs.clauses.Cut.{ahead, ends, sign_of, FaultyHere}
 use Rattle.notation.specs.clauses.Codes.{codes_room, flags_in, InText}
-use Rattle.notation.specs.clauses.Place.{place_room, token_in, refusal_in}
+use Rattle.notation.specs.declared.refusal.Refused.{Refused}
+use Rattle.notation.specs.declared.codes.Code.{Code}
 use Rattle.notation.specs.declared.place.Kind.{Kind}
 use Rattle.notation.specs.declared.place.Kind.TheVariants as kind
-use Rattle.notation.specs.declared.place.Step.{Step}
-use Rattle.notation.specs.declared.place.Step.TheVariants as step
-use Rattle.operands.specs.declared.Answer.{Answer}
-use Rattle.operands.specs.declared.Answer.TheVariants as answer
+use Rattle.notation.specs.declared.place.Token.{Token}
+use Rattle.notation.specs.declared.place.Place.{Place}
+use Rattle.operands.specs.declared.waiting.Stack.{Stack}
 
 -- how tight a sign binds, from tightest to loosest
 abbrev pub binding : Sign → ℕ
@@ -65,13 +65,6 @@ closes (kind.Sign c) = false
 closes kind.Opening = false
 closes kind.Closing = true
 
--- the number of a sign's kind in a place
-abbrev pub sign_number : Sign → ℕ
-sign_number tokens.and = 5
-sign_number tokens.or = 6
-sign_number tokens.implies = 7
-sign_number tokens.same = 8
-
 -- where the reader stands: the token ahead, and how many flags, signs and triplets lie behind
 pub record At : Type 0 where
   pub token : Token
@@ -84,13 +77,9 @@ pub record Part : Type 0 where
   pub literal : ℕ
   pub at : At
 
--- where the reader stands, read off the lent numbers
-abbrev pub place : List ℕ → At
-place p = record { token = token_in p; flags = get_or p 3 0; signs = get_or p 4 0; count = get_or p 5 0 }
-
--- how many literals wait
-abbrev pub waiting : List ℕ → ℕ
-waiting p = get_or p 7 0
+-- where the reader stands, read off the lent place
+abbrev pub place : Place → At
+place p = record { token = p.token; flags = p.flags; signs = p.signs; count = p.count }
 
 -- a token of the text
 pub record TokenFits (text : List ℕ) (t : Token) : Type 0 where
@@ -98,7 +87,7 @@ pub record TokenFits (text : List ℕ) (t : Token) : Type 0 where
   pub inside : t.next ≤ length text
 
 -- where the reader stands is right: the token ahead, the table, and the numbers behind
-pub record Standing (text codes : List ℕ) (at : At) : Type 0 where
+pub record Standing (text : List ℕ) (codes : List Code) (at : At) : Type 0 where
   pub token : TokenFits text at.token
   pub in_text : InText text codes at.flags
   pub table : length codes ≡ codes_room
@@ -115,32 +104,24 @@ pub record Advanced (text : List ℕ) (at : At) (m : ℕ) (to : At) : Type 0 whe
   pub signs : to.signs ≡ m
   pub count : to.count ≡ at.count
 
--- as many literals wait as did, and the place has all its numbers
-pub record Kept (p p' : List ℕ) : Type 0 where
-  pub waits : waiting p' ≡ waiting p
-  pub room : length p' ≡ place_room
-
 -- past any token, or what follows is faulty
-pub record AdvancedSays (text p : List ℕ) (r : Step) (p' : List ℕ) : Type 0 where
-  pub taken : r ≡ step.Taken → Advanced text (place p) (get_or p 4 0) (place p')
-  pub refused : r ≡ step.Refused → FaultyHere (past (ahead text (token_in p))) (refusal_in p')
-  pub kept : Kept p p'
+pub record AdvancedSays (text : List ℕ) (p : Place) (r : Result Unit Refused) (p' : Place) : Type 0 where
+  pub taken : r ≡ Ok tt → Advanced text (place p) p.signs (place p')
+  pub refused : (e : Refused) → r ≡ Err e → FaultyHere (past (ahead text p.token)) p'.refusal
 
 -- past a sign: one more is counted, or the walk is refused
-pub record PastSignSays (text p : List ℕ) (r : Step) (p' : List ℕ) : Type 0 where
-  pub taken : r ≡ step.Taken → Advanced text (place p) (get_or p 4 0 + 1) (place p') × (get_or p 4 0 < connective_ceiling)
-  pub refused : r ≡ step.Refused → (d : ℕ) (u : List Flag) →
-      walk after d u (get_or p 4 0) (ahead text (token_in p)) ≡ refused (get_or p' 6 0) (get_or p' 1 0)
-  pub kept : Kept p p'
+pub record PastSignSays (text : List ℕ) (p : Place) (r : Result Unit Refused) (p' : Place) : Type 0 where
+  pub taken : r ≡ Ok tt → Advanced text (place p) (p.signs + 1) (place p') × (p.signs < connective_ceiling)
+  pub refused : (e : Refused) → r ≡ Err e → (d : ℕ) (u : List Flag) →
+      walk after d u p.signs (ahead text p.token) ≡ refused p'.refusal.number p'.refusal.place
 
 -- the literal l past a token, or what follows is faulty
-pub record PastTokenSays (text p : List ℕ) (l : ℕ) (r : Answer) (p' : List ℕ) : Type 0 where
-  pub found : (m : ℕ) → r ≡ answer.Found m → Advanced text (place p) (get_or p 4 0) (place p') × (m ≡ l)
-  pub refused : r ≡ answer.Refused → FaultyHere (past (ahead text (token_in p))) (refusal_in p')
-  pub kept : Kept p p'
+pub record PastTokenSays (text : List ℕ) (p : Place) (l : ℕ) (r : Result ℕ Refused) (p' : Place) : Type 0 where
+  pub found : (m : ℕ) → r ≡ Ok m → Advanced text (place p) p.signs (place p') × (m ≡ l)
+  pub refused : (e : Refused) → r ≡ Err e → FaultyHere (past (ahead text p.token)) p'.refusal
 
 -- an operand that is no bracket was read: a guard with no connective, wherever it stands
-pub record Atom (text : List ℕ) (at : At) (codes : List ℕ) (l : ℕ) (to : At) (codes' : List ℕ) : Type 0 where
+pub record Atom (text : List ℕ) (at : At) (codes : List Code) (l : ℕ) (to : At) (codes' : List Code) : Type 0 where
   pub guard : Guard
   pub plainly : connectives guard ≡ 0
   pub nothing : (c : ℕ) → triplets c guard ≡ []
@@ -156,15 +137,14 @@ pub record Atom (text : List ℕ) (at : At) (codes : List ℕ) (l : ℕ) (to : A
   pub later : at.token.start < to.token.start
 
 -- such an operand, or the walk is refused
-pub record AtomSays (text p codes : List ℕ) (r : Answer) (p' codes' : List ℕ) : Type 0 where
-  pub found : (l : ℕ) → r ≡ answer.Found l → Atom text (place p) codes l (place p') codes'
-  pub refused : r ≡ answer.Refused → (d : ℕ) →
-      walk operand d (flags_in text codes (get_or p 3 0)) (get_or p 4 0) (ahead text (token_in p)) ≡ refused (get_or p' 6 0) (get_or p' 1 0)
-  pub kept : Kept p p'
+pub record AtomSays (text : List ℕ) (p : Place) (codes : List Code) (r : Result ℕ Refused) (p' : Place) (codes' : List Code) : Type 0 where
+  pub found : (l : ℕ) → r ≡ Ok l → Atom text (place p) codes l (place p') codes'
+  pub refused : (e : Refused) → r ≡ Err e → (d : ℕ) →
+      walk operand d (flags_in text codes p.flags) p.signs (ahead text p.token) ≡ refused p'.refusal.number p'.refusal.place
 
 -- `#0` or `#1`, whatever the table holds
-abbrev pub TruthSays : List ℕ → List ℕ → Answer → List ℕ → Type 0
-TruthSays text p r p' = (codes : List ℕ) → Standing text codes (place p) → AtomSays text p codes r p' codes
+abbrev pub TruthSays : List ℕ → Place → Result ℕ Refused → Place → Type 0
+TruthSays text p r p' = (codes : List Code) → Standing text codes (place p) → AtomSays text p codes r p' codes
 
 -- past a closing bracket the guard in brackets is an operand
 pub record Closed (text : List ℕ) (at to : At) : Type 0 where
@@ -173,18 +153,10 @@ pub record Closed (text : List ℕ) (at to : At) : Type 0 where
   pub parsed : (g : Guard) (u : List Flag) → closed g u (ahead text at.token) ≡ found g u (ahead text to.token)
 
 -- past it, or another token cannot stand there
-pub record ClosedSays (text p : List ℕ) (r : Step) (p' : List ℕ) : Type 0 where
-  pub taken : r ≡ step.Taken → Closed text (place p) (place p')
-  pub refused : r ≡ step.Refused → (d : ℕ) (u : List Flag) (m : ℕ) →
-      walk after (suc d) u m (ahead text (token_in p)) ≡ refused (get_or p' 6 0) (get_or p' 1 0)
-  pub kept : Kept p p'
-
--- refused with the number n at the token ahead
-pub record RefusedSays (n : ℕ) (p : List ℕ) (r : Answer) (p' : List ℕ) : Type 0 where
-  pub refused : r ≡ answer.Refused
-  pub number : get_or p' 6 0 ≡ n
-  pub start : get_or p' 1 0 ≡ get_or p 1 0
-  pub kept : Kept p p'
+pub record ClosedSays (text : List ℕ) (p : Place) (r : Result Unit Refused) (p' : Place) : Type 0 where
+  pub taken : r ≡ Ok tt → Closed text (place p) (place p')
+  pub refused : (e : Refused) → r ≡ Err e → (d : ℕ) (u : List Flag) (m : ℕ) →
+      walk after (suc d) u m (ahead text p.token) ≡ refused p'.refusal.number p'.refusal.place
 
 -- two operands joined: the reader has written one triplet more
 abbrev pub joined_part : Sign → Part → Part
@@ -193,18 +165,20 @@ joined_part s right = record {
   at = record { token = right.at.token; flags = right.at.flags; signs = right.at.signs; count = right.at.count + 1 };
 }
 
--- the literals l and r joined, after which w literals wait
-pub record JoinedSays (s : Sign) (l r w : ℕ) (p out : List ℕ) (x : ℕ) (p' out' : List ℕ) : Type 0 where
+-- the literals l and r joined
+pub record JoinedSays (s : Sign) (l r : ℕ) (p : Place) (out : List ℕ) (x : ℕ) (p' : Place) (out' : List ℕ) : Type 0 where
   pub joined : ◌≡◌ {A = Part} (record { literal = x; at = place p' }) (joined_part s (record { literal = r; at = place p }))
-  pub written : out' ≡ triplet_at out (get_or p 5 0) (triplet_of s l r)
-  pub waits : waiting p' ≡ w
-  pub room : length p' ≡ place_room
+  pub written : out' ≡ triplet_at out p.count (triplet_of s l r)
 
--- one literal more waits, and the reader stands where it stood
-pub record SetAside (l : ℕ) (p wait p' wait' : List ℕ) : Type 0 where
-  pub stands : place p' ≡ place p
-  pub waits : waiting p' ≡ waiting p + 1
-  pub room : length p' ≡ place_room
-  pub last : get_or wait' (waiting p) 0 ≡ l
-  pub others : (i : ℕ) → i < waiting p → get_or wait' i 0 ≡ get_or wait i 0
-  pub table : length wait' ≡ connective_ceiling
+-- one literal more waits, on top of the others
+pub record Pushed (l : ℕ) (wait wait' : Stack) : Type 0 where
+  pub waits : wait'.count ≡ wait.count + 1
+  pub last : get_or wait'.literals wait.count 0 ≡ l
+  pub others : (i : ℕ) → i < wait.count → get_or wait'.literals i 0 ≡ get_or wait.literals i 0
+  pub table : length wait'.literals ≡ connective_ceiling
+
+-- the literal on top was taken, and the others wait
+pub record Popped (wait : Stack) (l : ℕ) (wait' : Stack) : Type 0 where
+  pub last : l ≡ get_or wait.literals (wait.count - 1) 0
+  pub waits : wait'.count ≡ wait.count - 1
+  pub others : wait'.literals ≡ wait.literals

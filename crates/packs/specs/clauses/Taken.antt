@@ -3,6 +3,7 @@ use Rattle.std.specs.Prelude.{ℕ, suc, ◌+◌, ◌*◌, ◌≤◌, ◌<◌, �
 use Rattle.notation.specs.Ceilings.{flag_ceiling, connective_ceiling}
 use Rattle.notation.specs.Guard.{Guard, connectives}
 use Rattle.notation.specs.clauses.Codes.{codes_room, flags_in, InText}
+use Rattle.notation.specs.declared.codes.Code.{Code}
 use Rattle.fields.specs.Fields.{pieces_at}
 use Rattle.building.specs.Span.{Span}
 use Rattle.building.specs.clauses.Held.{off_at, count_at, root_at, text_at, HeldAt}
@@ -18,7 +19,7 @@ abbrev pub guard_ceiling : ℕ
 guard_ceiling = variant_ceiling + 1
 
 -- the lent tables are as large as any pack wants
-pub record Rooms (c p s : List ℕ) : Type 0 where
+pub record Rooms (c : List Code) (p s : List ℕ) : Type 0 where
   pub codes : length c ≡ codes_room
   pub pool : length p ≡ 3 * connective_ceiling
   pub spans : length s ≡ spans_room
@@ -44,7 +45,7 @@ Stage due.Text l = length l.variants ≡ length l.texts + 1
 Stage due.VariantOrEnd l = (length l.variants ≡ length l.texts) × (0 < length l.variants)
 
 -- the line l has been read up to here; its guards stand in the pool where they fit
-pub record Taken (file codes pool spans : List ℕ) (p : Progress) (l : Line) : Type 0 where
+pub record Taken (file : List ℕ) (codes : List Code) (pool spans : List ℕ) (p : Progress) (l : Line) : Type 0 where
   pub rooms : Rooms codes pool spans
   pub goes : pack_from file p.due l (pieces_at file p.at) ≡ fields_say file
   pub inside : p.at ≤ length file

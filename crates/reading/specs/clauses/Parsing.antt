@@ -8,6 +8,7 @@ use Rattle.notation.specs.Triplets.{literal, triplets, numbers}
 use Rattle.notation.specs.Reading.{Reading, refusal, guard}
 use Rattle.notation.specs.clauses.Cut.{ends}
 use Rattle.notation.specs.clauses.Codes.{codes_room, start_of, end_of, flags_in, InText}
+use Rattle.notation.specs.declared.codes.Code.{Code}
 use Rattle.operands.specs.clauses.Steps.{Part}
 use Rattle.reading.specs.Service.{Parsed, Named, guard_with, refused_with, part_with, unnamed}
 
@@ -16,7 +17,7 @@ abbrev pub last_refusal : ℕ
 last_refusal = 12
 
 -- the guard of a text, in lent tables: its flags, and its triplets as numbers
-pub record GuardRead (text : List ℕ) (g : Guard) (u : List Flag) (r : Parsed) (codes out : List ℕ) : Type 0 where
+pub record GuardRead (text : List ℕ) (g : Guard) (u : List Flag) (r : Parsed) (codes : List Code) (out : List ℕ) : Type 0 where
   pub answer : r ≡ guard_with (length u) (connectives g) (literal 0 g)
   pub flags : flags_in text codes (length u) ≡ u
   pub in_text : InText text codes (length u)
@@ -27,7 +28,7 @@ pub record GuardRead (text : List ℕ) (g : Guard) (u : List Flag) (r : Parsed) 
   pub room : length out ≡ 3 * connective_ceiling
 
 -- what parse answers, and what the lent tables then hold
-abbrev pub ParseSays : List ℕ → Reading → Parsed → List ℕ → List ℕ → Type 0
+abbrev pub ParseSays : List ℕ → Reading → Parsed → List Code → List ℕ → Type 0
 ParseSays text (refusal k p) r codes out = r ≡ refused_with k p
 ParseSays text (guard g u) r codes out = GuardRead text g u r codes out
 
@@ -36,11 +37,11 @@ abbrev pub ended_as : Part → Parsed
 ended_as p = choose (ends p.at.token.kind) (guard_with p.at.flags p.at.count p.literal) (refused_with 5 p.at.token.start)
 
 -- the first k codes of the table end no earlier than they start
-pub record Spans (codes : List ℕ) (k : ℕ) : Type 0 where
-  pub room : 2 * k ≤ length codes
+pub record Spans (codes : List Code) (k : ℕ) : Type 0 where
+  pub room : k ≤ length codes
   pub starts : (i : ℕ) → i < k → start_of codes i ≤ end_of codes i
 
 -- the part that code i of the table is, i counted from 1
-abbrev pub named_in : List ℕ → ℕ → ℕ → Named
+abbrev pub named_in : List Code → ℕ → ℕ → Named
 named_in codes k i = choose (ltb 0 i) (choose (leb i k) (part_with (start_of codes (i - 1)) (end_of codes (i - 1) - start_of codes (i - 1)))
     (unnamed 11 0)) (unnamed 11 0)

@@ -1,23 +1,22 @@
 use mathlib.Core.Path.{refl, ◌∙◌, sym}
+use borrow.Author.Rules.{rules}
 use Rattle.notation.specs.Grammar.{number}
 use Rattle.notation.specs.clauses.Codes.{flags_in}
 use Rattle.notation.proofs.Coding.{placed, not-placed}
-use borrow.Author.Rules.{rules}
 use Rattle.notation.proofs.codes.place_of.Goals as goal
 
-pub loop-i-init : goal.loop-i-init
+pub loop-place-init : goal.loop-place-init
 unfolding number flags_in
-loop-i-init c =
-    (search rules, refl)
+loop-place-init c =
+    refl
 
-pub returns-then-stands_at : goal.returns-then-stands_at
-returns-then-stands_at c =
+pub returns-then-same : goal.returns-then-same
+returns-then-same c =
     record {
-      numbered = placed _ _ _ c.loop-i.i c.loop-i.invariant.1 _ c.loop-i-test.true (sym c.stands_at.ensures ∙
-          c.if-stands_at.true);
+      numbered = placed _ _ _ c.loop-place.place c.loop-place.invariant _ c.loop-place-test.true (sym c.same.ensures ∙ c.if-same.true);
       small = search rules;
     }
 
-pub loop-i-preserved : goal.loop-i-preserved
-loop-i-preserved c =
-    (search rules, not-placed _ _ _ c.loop-i.i c.loop-i.invariant.1 (sym c.stands_at.ensures ∙ c.if-stands_at.false))
+pub loop-place-preserved : goal.loop-place-preserved
+loop-place-preserved c =
+    not-placed _ _ _ c.loop-place.place c.loop-place.invariant (sym c.same.ensures ∙ c.if-same.false)

@@ -1,23 +1,24 @@
 -- `notation::tokens::hash_at` meets its contract: the byte after `#` tells the token.
-use Rattle.notation.specs.clauses.Place.{kind_of}
-use Rattle.notation.proofs.Cutting.{cut-hash-false, cut-hash-true, cut-no-digit, cut-lone-hash}
+use native.Mathlib.Omega.{arith}
+use Rattle.notation.proofs.Cutting.{cut-hash-zero, cut-hash-one, cut-no-digit, cut-lone-hash}
 use Rattle.notation.proofs.Placing.{taken-stored, refused-stored}
 use Rattle.notation.proofs.tokens.hash_at.Goals as goal
+use Rattle.notation.proofs.tokens.hash_at.Goals.{else-digit-ne48-via-then-digit-ne48+else-digit-ne49, else-digit-ne48-via-else-digit-ne48}
 
-pub returns-then-text-digit-eq48 : goal.returns-then-text-digit-eq48
-unfolding kind_of
-returns-then-text-digit-eq48 c =
-    taken-stored c.store.ensures (cut-hash-false _ _ c.requires.0 c.if-digit-text.true c.if-text-digit-eq48.true)
+pub returns-then-text-next : goal.returns-then-text-next
+returns-then-text-next c =
+    refused-stored c.refuse.ensures (cut-lone-hash _ _ c.requires (omega (arith, c.if-text-next.true)))
 
-pub returns-then-text-digit-eq49 : goal.returns-then-text-digit-eq49
-unfolding kind_of
-returns-then-text-digit-eq49 c =
-    taken-stored c.store-then-text-digit-eq49.ensures (cut-hash-true _ _ c.requires.0 c.if-digit-text.true c.if-text-digit-eq49.true)
-
-pub returns-then-digit-text : goal.returns-then-digit-text
-returns-then-digit-text c =
-    refused-stored c.refuse.ensures (cut-no-digit _ _ c.requires.0 c.if-digit-text.true c.if-text-digit-eq48.false c.if-text-digit-eq49.false)
+pub returns-then-digit-ne49 : goal.returns-then-digit-ne49
+returns-then-digit-ne49 c =
+    refused-stored c.refuse-then-digit-ne49.ensures (cut-no-digit _ _ c.requires (omega (arith, c.if-text-next.false)) c.if-digit-ne48.true
+    c.if-digit-ne49.true)
 
 pub returns : goal.returns
 returns c =
-    refused-stored c.refuse-2.ensures (cut-lone-hash _ _ c.requires.0 c.if-digit-text.false)
+    elim c.else-digit-ne48.branch [
+      | else-digit-ne48-via-then-digit-ne48+else-digit-ne49 w ↦
+          taken-stored (cut-hash-one _ _ c.requires (omega (arith, c.if-text-next.false)) w.if-digit-ne49.false)
+      | else-digit-ne48-via-else-digit-ne48 w ↦
+          taken-stored (cut-hash-zero _ _ c.requires (omega (arith, c.if-text-next.false)) w.if-digit-ne48.false)
+    ]

@@ -1,8 +1,7 @@
 use mathlib.Core.Path.{◌∙◌}
 use Rattle.notation.proofs.Cutting.{at-a-space}
-use borrow.Author.Rules.{rules}
 use Rattle.notation.proofs.tokens.past_spaces.Goals as goal
 
 pub loop-at-preserved : goal.loop-at-preserved
 loop-at-preserved c =
-    (search rules, search rules, c.loop-at.invariant.2 ∙ at-a-space _ _ c.loop-at-test.true c.if-text-at-ne32.false)
+    c.loop-at.invariant ∙ at-a-space _ _ c.loop-at-test.true c.if-text-at-ne32.false

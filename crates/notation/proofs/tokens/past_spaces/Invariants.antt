@@ -1,12 +1,7 @@
 -- `notation::tokens::past_spaces` meets its contract: each space passed leaves the tokens as they are.
 use mathlib.Core.Path.{◌≡◌}
-use Prim.Native.Nat.{◌-◌, ◌≤◌}
-use lib.ListN.{length}
 use Rattle.notation.specs.Tokens.{tokens_at}
 use Rattle.notation.proofs.tokens.past_spaces.Given as goal
 
 abbrev pub invariant-loop-at : goal.invariant-loop-at
-invariant-loop-at l = (l.from ≤ l.at) × (l.at ≤ length l.text) × (tokens_at l.text l.from ≡ tokens_at l.text l.at)
-
-abbrev pub decreases-loop-at : goal.decreases-loop-at
-decreases-loop-at l = length l.text - l.at
+invariant-loop-at l = tokens_at l.text l.from ≡ tokens_at l.text l.at

@@ -7,7 +7,7 @@ use Rattle.notation.specs.clauses.Codes.{flags_in}
 use Rattle.notation.specs.Reading.{Reading}
 use Rattle.reading.specs.Service.{refused_with}
 use Rattle.reading.specs.clauses.Parsing.{ParseSays}
-use Rattle.reading.proofs.Parsing.{too_long, before, faulty-first, refused-first, parse-says}
+use Rattle.reading.proofs.Parsing.{too_long, faulty-first, refused-first, parse-says}
 use Rattle.reading.proofs.parse.parse_from.Goals as goal
 
 pub returns-then-text-from-gt-TEXT : goal.returns-then-text-from-gt-TEXT
@@ -17,15 +17,15 @@ returns-then-text-from-gt-TEXT c =
 
 pub returns-in_default : goal.returns-in_default
 returns-in_default c =
-    faulty-first (before c.args.from c.args.flags) c.token_at-first.ensures c.if-text-from-gt-TEXT.false c.args.codes.now c.in_default.is
-    (ap Err c.unread.ensures) c.args.codes.now c.args.out.now
+    faulty-first c.before-at.ensures c.token_at-first.ensures c.if-text-from-gt-TEXT.false c.args.codes.now c.in_default.is refl
+    c.args.codes.now c.args.out.now
 
 pub returns-in_default-whole : goal.returns-in_default-whole
 returns-in_default-whole c =
-    refused-first (before c.args.from c.args.flags) c.token_at-first.ensures c.if-text-from-gt-TEXT.false c.args.codes.now c.in-Taken.is c.same-whole.ensures
-    c.in_default-whole.is (ap Err c.unread-in_default-whole.ensures)
+    refused-first c.before-at.ensures c.token_at-first.ensures c.if-text-from-gt-TEXT.false c.args.codes.now c.in-Ok.is c.same-whole.ensures
+    c.in_default-whole.is refl
 
 pub returns : goal.returns
 returns c =
-    parse-says (before c.args.from c.args.flags) c.token_at-first.ensures c.if-text-from-gt-TEXT.false c.args.codes.now c.in-Taken.is c.same-whole.ensures
-    c.in-Found.is c.ended.ensures
+    parse-says c.before-at.ensures c.token_at-first.ensures c.if-text-from-gt-TEXT.false c.args.codes.now c.in-Ok.is c.same-whole.ensures
+    c.in-Ok-whole.is c.ended.ensures
