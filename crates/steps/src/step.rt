@@ -1,15 +1,12 @@
 // One step on a triplet, in place: where it adds nothing, nothing is written.
 ghost use Rattle.std.specs.Prelude.{◌≡◌, true, ◌+◌, ◌*◌, ◌/◌, ◌%◌, ◌<◌, ◌≤◌, ◌^◌, get_or};
-ghost use Rattle.relation.specs.clauses.Classes.{Classes};
 ghost use Rattle.steps.specs.Step.{own-z, literal_at};
 ghost use Rattle.steps.specs.Table.{z_names};
 ghost use Rattle.steps.specs.clauses.Leading.{x_place, y_place, z_place, Patterned};
-ghost use Rattle.steps.specs.clauses.Resting.{Entries, Usable, Named, Stepped};
+ghost use Rattle.steps.specs.clauses.Resting.{Usable, Named, Stepped};
 
-use crate::table::{ENTRIES, entry_of};
-use notation::ceilings::VARIABLES;
-use relation::classes::{lead, turned};
-use relation::joining::join;
+use crate::after;
+use relation::classes::{Relation, turned};
 
 // The entry for contradiction.
 const CONTRADICTORY: usize = 255;
@@ -59,25 +56,8 @@ fn z_place(a: u16, b: u16, c: u16) -> u16
 fn apart(a: u16, b: u16, c: u16) -> bool
     ensures { result ≡ true → Patterned a b c 104 }
 {
-    if a / 2 == 0 {
-        return false;
-    }
-    if b / 2 == 0 {
-        return false;
-    }
-    if c / 2 == 0 {
-        return false;
-    }
-    if b / 2 == a / 2 {
-        return false;
-    }
-    if c / 2 == a / 2 {
-        return false;
-    }
-    if c / 2 == b / 2 {
-        return false;
-    }
-    true
+    let (a, b, c) = (a / 2, b / 2, c / 2);
+    a != 0 && b != 0 && c != 0 && b != a && c != a && c != b
 }
 
 // The pattern of x, y and z, which lead to a, b and c.
@@ -97,71 +77,52 @@ fn literal_at(place: usize, x: u16, y: u16, z: u16) -> u16
     requires x_bound { (x + 1 < 2 ^ 16) × (y + 1 < 2 ^ 16) }
     ensures { result ≡ literal_at x y z (get_or z_names place own-z) }
 {
-    if place == 0 {
-        return 1;
+    match place {
+        0 => 1,
+        1 => 0,
+        2 => x,
+        3 => turned(x, 1),
+        4 => y,
+        5 => turned(y, 1),
+        _ => z,
     }
-    if place == 1 {
-        return 0;
-    }
-    if place == 2 {
-        return x;
-    }
-    if place == 3 {
-        return turned(x, 1);
-    }
-    if place == 4 {
-        return y;
-    }
-    if place == 5 {
-        return turned(y, 1);
-    }
-    z
 }
 
 // Joins x, y and z with what the pattern names them.
-fn hold(of: &mut [u16; VARIABLES], size: usize, pattern: usize, x: u16, y: u16, z: u16)
-    requires classes { Classes size of.old }
+fn hold(relation: &mut Relation, pattern: usize, x: u16, y: u16, z: u16)
     requires pattern_bound { pattern < 105 }
-    requires x_bound { (x / 2 < size) × (y / 2 < size) × (z / 2 < size) }
-    ensures { Named size pattern x y z of.old of.new }
+    requires x_bound { (x / 2 < relation.old.size) × (y / 2 < relation.old.size) × (z / 2 < relation.old.size) }
+    ensures named { Named relation.old.size pattern x y z relation.old.of relation.new.of }
+    ensures size { relation.new.size ≡ relation.old.size }
 {
     let p = literal_at(pattern / 35, x, y, z);
-    join(of, size, x, p);
+    relation.join(x, p);
     let q = literal_at(pattern / 7 % 5, x, y, z);
-    join(of, size, y, q);
+    relation.join(y, q);
     let r = literal_at(pattern % 7, x, y, z);
-    join(of, size, z, r);
+    relation.join(z, r);
 }
 
 // A step on a triplet x = (y implies z) or x = (y same as z).
-pub fn step(
-    of: &mut [u16; VARIABLES],
-    table: &[u8; ENTRIES],
-    size: usize,
-    kind: usize,
-    x: u16,
-    y: u16,
-    z: u16,
-)
-    requires entries { Entries table.now }
-    requires classes { Classes size of.old }
-    requires usable { Usable size kind x y z }
-    ensures { Stepped size kind x y z of.old of.new }
+pub fn step(relation: &mut Relation, kind: usize, x: u16, y: u16, z: u16)
+    requires { Usable relation.old.size kind x y z }
+    ensures stepped { Stepped relation.old.size kind x y z relation.old.of relation.new.of }
+    ensures size { relation.new.size ≡ relation.old.size }
 {
-    let a = lead(&*of, x);
-    let b = lead(&*of, y);
-    let c = lead(&*of, z);
+    let a = relation.lead(x);
+    let b = relation.lead(y);
+    let c = relation.lead(z);
     if apart(a, b, c) {
         return;
     }
     let before = pattern_of(a, b, c);
-    let next = entry_of(table, kind, before) as usize;
+    let next = after(kind, before) as usize;
     if next == before {
         return;
     }
     if next == CONTRADICTORY {
-        join(of, size, 0, 1);
+        relation.join(0, 1);
         return;
     }
-    hold(of, size, next, x, y, z);
+    hold(relation, next, x, y, z);
 }

@@ -1,7 +1,9 @@
 -- `steps::step::apart` meets its contract: each test that leads to true tells two variables apart.
-use Rattle.steps.proofs.Placing.{own-names}
+use Prim.Native.Nat.{◌/◌}
+use Rattle.steps.proofs.Placing.{own-names, told_apart}
 use Rattle.steps.proofs.step.apart.Goals as goal
 
-pub returns : goal.returns
-returns c =
-    λ e. own-names c.args.a c.args.b c.args.c c.if-a-eq0.false c.if-b-eq0.false c.if-c-eq0.false c.if-b-a.false c.if-c-a.false c.if-c-b.false
+pub returns-then-c-a : goal.returns-then-c-a
+returns-then-c-a c e =
+    let t = c.if-c-a.true in
+    own-names c.args.a c.args.b c.args.c t.0 t.1 t.2 t.3 t.4 (told_apart (c.args.c / 2) (c.args.b / 2) e)

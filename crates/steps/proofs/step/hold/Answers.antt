@@ -1,8 +1,9 @@
 -- `steps::step::hold` meets its contract: three joins, one after the other.
 use Prim.Native.Nat.{ℕ, ◌/◌, ◌%◌, ◌<◌}
-use mathlib.Core.Path.{sym, ◌∙◌, ap, subst}
+use mathlib.Core.Path.{◌≡◌, sym, ◌∙◌, ap, subst}
 use native.Mathlib.Omega.{arith}
 use lib.ListN.{get_or}
+use Rattle.relation.specs.clauses.Keeping.{Joined}
 use Rattle.steps.specs.Step.{Side, own-z, literal_at}
 use Rattle.steps.specs.Table.{z_names}
 use Rattle.steps.proofs.Placing.{x-among, y-among}
@@ -10,35 +11,34 @@ use Rattle.steps.proofs.Stepping.{literal-inside, named-three}
 use Rattle.steps.proofs.step.hold.Goals as goal
 
 pub join-requires-2 : goal.join-requires-2
-join-requires-2 c =
-    record {
-      classes = c.join.ensures.classes;
-      l_bound = (
-        c.requires.x_bound.1,
-        subst (λ (l : ℕ). l / 2 < c.args.size) (sym c.literal_at-q.ensures)
-            (literal-inside c.args.size c.args.x c.args.y c.args.z c.requires.x_bound.0 c.requires.x_bound.1 c.requires.x_bound.2
-            (get_or z_names (c.args.pattern / 7 % 5) own-z)),
-      );
-    }
+join-requires-2 c = (
+  subst (λ (n : ℕ). c.args.y / 2 < n) (sym c.join.ensures.size) c.requires.x_bound.1,
+  subst (λ (n : ℕ). c.literal_at-q.result / 2 < n) (sym c.join.ensures.size)
+      (subst (λ (l : ℕ). l / 2 < c.args.relation.now.size) (sym c.literal_at-q.ensures)
+      (literal-inside c.args.relation.now.size c.args.x c.args.y c.args.z c.requires.x_bound.0 c.requires.x_bound.1 c.requires.x_bound.2
+      (get_or z_names (c.args.pattern / 7 % 5) own-z))),
+)
 
 pub join-requires-3 : goal.join-requires-3
 join-requires-3 c =
-    record {
-      classes = c.join-2.ensures.classes;
-      l_bound = (
-        c.requires.x_bound.2,
-        subst (λ (l : ℕ). l / 2 < c.args.size) (sym c.literal_at-r.ensures)
-            (literal-inside c.args.size c.args.x c.args.y c.args.z c.requires.x_bound.0 c.requires.x_bound.1 c.requires.x_bound.2
-            (get_or z_names (c.args.pattern % 7) own-z)),
-      );
-    }
+    let same : c.join-2.new.self.size ≡ c.args.relation.now.size = c.join-2.ensures.size ∙ c.join.ensures.size in (
+      subst (λ (n : ℕ). c.args.z / 2 < n) (sym same) c.requires.x_bound.2,
+      subst (λ (n : ℕ). c.literal_at-r.result / 2 < n) (sym same)
+          (subst (λ (l : ℕ). l / 2 < c.args.relation.now.size) (sym c.literal_at-r.ensures)
+          (literal-inside c.args.relation.now.size c.args.x c.args.y c.args.z c.requires.x_bound.0 c.requires.x_bound.1 c.requires.x_bound.2
+          (get_or z_names (c.args.pattern % 7) own-z))),
+    )
 
-pub returns : goal.returns
-returns c =
+pub returns-clause-named : goal.returns-clause-named
+returns-clause-named c =
     let lit : Side → ℕ = literal_at c.args.x c.args.y c.args.z in
-    named-three c.args.size c.args.pattern c.args.x c.args.y c.args.z c.args.of.now c.join.new.of c.join-2.new.of c.join-3.new.of
-    c.literal_at-p.result c.literal_at-q.result c.literal_at-r.result
+    named-three c.args.relation.now.size c.args.pattern c.args.x c.args.y c.args.z c.args.relation.now.of c.join.new.self.of
+    c.join-2.new.self.of c.join-3.new.self.of c.literal_at-p.result c.literal_at-q.result c.literal_at-r.result
     (c.literal_at-p.ensures ∙ ap lit (x-among (c.args.pattern / 35) (omega (arith, c.requires.pattern_bound))))
     (c.literal_at-q.ensures ∙ ap lit (y-among (c.args.pattern / 7 % 5) (omega arith)))
     c.literal_at-r.ensures
-    c.join.ensures c.join-2.ensures c.join-3.ensures
+    c.join.ensures.joined
+    (subst (λ (n : ℕ). Joined n c.join.new.self.of c.args.y c.literal_at-q.result c.join-2.new.self.of) c.join.ensures.size
+    c.join-2.ensures.joined)
+    (subst (λ (n : ℕ). Joined n c.join-2.new.self.of c.args.z c.literal_at-r.result c.join-3.new.self.of)
+    (c.join-2.ensures.size ∙ c.join.ensures.size) c.join-3.ensures.joined)

@@ -7,12 +7,12 @@ use Rattle.steps.specs.Step.{own-z, literal_at}
 use Rattle.steps.specs.Table.{z_names}
 use Rattle.steps.proofs.step.literal_at.Goals as goal
 
-pub returns-then-place-eq3 : goal.returns-then-place-eq3
-returns-then-place-eq3 c =
+pub returns-in-3 : goal.returns-in-3
+returns-in-3 c =
     c.turned.ensures ∙ signed_odd c.args.x 1 refl ∙ sym (ap (λ (k : ℕ). literal_at c.args.x c.args.y c.args.z (get_or z_names k own-z))
-    c.if-place-eq3.true)
+    c.in-3.is)
 
-pub returns-then-place-eq5 : goal.returns-then-place-eq5
-returns-then-place-eq5 c =
-    c.turned-then-place-eq5.ensures ∙ signed_odd c.args.y 1 refl ∙ sym (ap (λ (k : ℕ). literal_at c.args.x c.args.y c.args.z (get_or z_names k own-z))
-    c.if-place-eq5.true)
+pub returns-in-5 : goal.returns-in-5
+returns-in-5 c =
+    c.turned-in-5.ensures ∙ signed_odd c.args.y 1 refl ∙ sym (ap (λ (k : ℕ). literal_at c.args.x c.args.y c.args.z (get_or z_names k own-z))
+    c.in-5.is)
