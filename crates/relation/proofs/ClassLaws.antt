@@ -1,6 +1,6 @@
 -- What an array of classes keeps is a relation, and each literal equals the one to which it leads.
 use Prim.Native.Nat.{ℕ, zero, suc, ◌+◌, ◌*◌, ◌/◌, ◌%◌, ◌≤◌, ◌<◌}
-use mathlib.Core.Path.{◌≡◌, refl, sym, ◌∙◌, ap, ap₂}
+use mathlib.Core.Path.{◌≡◌, refl, sym, ◌∙◌, ap, ap₂, subst}
 use mathlib.Core.Bool.{Bool, true, false}
 use mathlib.Core.Logic.{◌⊎◌, inl, inr, ⊎_elim}
 use mathlib.Core.List.{List, [], ◌∷◌}
@@ -270,3 +270,7 @@ lowers n xs k = record { long = k.long; lower = k.canonical.lower }
 pub classes-more : (n m : ℕ) (xs : List ℕ) → n ≤ m → m ≤ variable_ceiling → Classes n xs → Classes m xs
 classes-more n m xs h fits k =
     record { long = k.long; fits = fits; canonical = canonical-more n m (entry xs) h k.canonical }
+
+-- by another name of the number of variables
+pub classes-at : {n m : ℕ} {xs : List ℕ} → n ≡ m → Classes n xs → Classes m xs
+classes-at {n} {m} {xs} e = subst (λ (i : ℕ). Classes i xs) e

@@ -1,80 +1,77 @@
 // Saturation at a depth. A split saturates both sides one less deep and keeps what they share.
+ghost use Rattle.std.specs.Prelude.{◌≡◌};
 ghost use Rattle.relation.specs.clauses.Classes.{kept};
 ghost use Rattle.steps.specs.Rest.{NoStepEnlarges};
 ghost use Rattle.steps.specs.clauses.Resting.{triplets_at};
 ghost use Rattle.saturation.specs.Saturation.{Flags};
 ghost use Rattle.saturation.specs.clauses.Saturating.{Ready, SaturatedTo, Divided, Swept};
 
-use notation::ceilings::VARIABLES;
-use relation::classes::is_tied;
-use relation::joining::join;
-use relation::ranking::size_of;
-use relation::sharing::share;
-use steps::rest::{FIRST, rest};
+use relation::classes::Relation;
+use steps::rest::rest;
 
 // Splits on a flag that is not tied, false side first. The true side is the relation itself: what both sides share is above
 // what it was, so that one copy is enough.
 #[cycle(saturate_split_sweep)]
 fn split(
-    of: &mut [u16; VARIABLES],
+    relation: &mut Relation,
     triplets: &[u16],
     count: usize,
     flags: usize,
     flag: usize,
     below: u64,
 )
-    requires ready { Ready triplets.now count flags of.old }
-    requires no_step_enlarges { NoStepEnlarges (triplets_at triplets.now count) (kept of.old) }
+    requires ready { Ready triplets.now count flags relation.old }
+    requires no_step_enlarges { NoStepEnlarges (triplets_at triplets.now count) (kept relation.old.of) }
     requires flags { Flags flags flag }
-    ensures { Divided triplets.now count flags below flag of.old of.new }
+    ensures divided { Divided triplets.now count flags below flag relation.old.of relation.new.of }
+    ensures size { relation.new.size ≡ relation.old.size }
 {
-    if is_tied(&*of, flag) {
+    if relation.is_tied(flag) {
         return;
     }
-    let size = FIRST + count;
     let on = 2 * flag as u16;
-    let before = size_of(&*of, size);
-    let mut off = *of;
-    join(&mut off, size, on + 1, 0);
+    let before = relation.rank();
+    let mut off = *relation;
+    off.join(on + 1, 0);
     saturate(&mut off, triplets, count, flags, below);
-    join(of, size, on, 0);
-    saturate(of, triplets, count, flags, below);
-    share(of, &off, size);
-    if before <= size_of(&*of, size) {
+    relation.join(on, 0);
+    saturate(relation, triplets, count, flags, below);
+    relation.share(&off);
+    if before <= relation.rank() {
         return;
     }
-    rest(of, triplets, count);
+    rest(relation, triplets, count);
 }
 
 // A split on each flag in turn.
 #[cycle(saturate_split_sweep)]
-fn sweep(of: &mut [u16; VARIABLES], triplets: &[u16], count: usize, flags: usize, below: u64)
-    requires ready { Ready triplets.now count flags of.old }
-    requires no_step_enlarges { NoStepEnlarges (triplets_at triplets.now count) (kept of.old) }
-    ensures { Swept triplets.now count flags below of.old of.new }
+fn sweep(relation: &mut Relation, triplets: &[u16], count: usize, flags: usize, below: u64)
+    requires ready { Ready triplets.now count flags relation.old }
+    requires no_step_enlarges { NoStepEnlarges (triplets_at triplets.now count) (kept relation.old.of) }
+    ensures swept { Swept triplets.now count flags below relation.old.of relation.new.of }
+    ensures size { relation.new.size ≡ relation.old.size }
 {
-    let mut flag: usize = 1;
-    while flag <= flags {
-        split(of, triplets, count, flags, flag, below);
-        flag += 1;
+    for flag in 1..=flags {
+        split(relation, triplets, count, flags, flag, below);
     }
 }
 
 // Passes over the flags until one changes nothing. Each that changes something makes the rank fall.
 #[cycle(saturate_split_sweep)]
-pub fn saturate(of: &mut [u16; VARIABLES], triplets: &[u16], count: usize, flags: usize, depth: u64)
-    requires { Ready triplets.now count flags of.old }
-    ensures { SaturatedTo triplets.now count flags depth of.old of.new }
+pub fn saturate(relation: &mut Relation, triplets: &[u16], count: usize, flags: usize, depth: u64)
+    requires { Ready triplets.now count flags relation.old }
+    ensures saturated { SaturatedTo triplets.now count flags depth relation.old.of relation.new.of }
+    ensures size { relation.new.size ≡ relation.old.size }
 {
-    rest(of, triplets, count);
+    rest(relation, triplets, count);
     if depth == 0 {
         return;
     }
-    let mut left = size_of(&*of, FIRST + count);
+    let mut left = relation.rank();
     let mut was = left + 1;
     while left < was {
         was = left;
-        sweep(of, triplets, count, flags, depth - 1);
-        left = size_of(&*of, FIRST + count);
+        sweep(relation, triplets, count, flags, depth - 1);
+        left = relation.rank();
     }
 }

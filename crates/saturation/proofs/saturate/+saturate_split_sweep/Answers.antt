@@ -1,11 +1,13 @@
-use Prim.Native.Nat.{ℕ, suc, ◌-◌, ◌<◌}
-use mathlib.Core.Path.{◌≡◌, sym, ◌∙◌}
+use Prim.Native.Nat.{ℕ, suc, ◌+◌, ◌-◌, ◌<◌}
+use mathlib.Core.Path.{◌≡◌, sym, ◌∙◌, ap}
 use native.Mathlib.Omega.{arith}
 use native.Mathlib.Nat.{pos_of_ne-zero}
-use Rattle.relation.specs.clauses.Classes.{entry}
+use Rattle.relation.specs.clauses.Classes.{entry, rank}
+use Rattle.relation.proofs.ClassLaws.{classes-at}
+use Rattle.relation.proofs.JoinLaws.{joined-at}
+use Rattle.relation.proofs.ShareLaws.{shared-at}
 use Rattle.relation.proofs.RankLaws.{rank_most}
-use Rattle.steps.specs.clauses.Resting.{in_use}
-use Rattle.saturation.proofs.Saturating.{saturating-next, saturating-done, sweeping-next, divided-tied, divided-idle, divided-rested}
+use Rattle.saturation.proofs.Saturating.{saturating-next, saturating-done, sweeping-next, sweeping-done, divided-tied, divided-idle, divided-rested}
 use Rattle.saturation.proofs.saturate.+saturate_split_sweep.Goals as goal
 
 -- the depth below a depth that is not 0
@@ -14,38 +16,73 @@ deep depth h = let p : 0 < depth = pos_of_ne-zero h in omega arith
 
 pub saturate-overflow_add-was : goal.saturate-overflow_add-was
 saturate-overflow_add-was t c =
-    omega (arith, c.size_of-left.ensures, rank_most (in_use c.args.count) (entry c.rest.new.of), c.requires.readable.2.count)
+    omega (
+      arith,
+      c.rank-left.ensures,
+      rank_most c.rest.new.relation.size (entry c.rest.new.relation.of),
+      c.rest.new.relation.classes.fits,
+    )
 
 pub saturate-loop-left-preserved : goal.saturate-loop-left-preserved
 saturate-loop-left-preserved t c =
-    saturating-next c.args.triplets.now c.args.count c.args.flags (c.args.depth - 1) c.rest.new.of c.loop-left.of c.sweep.new.of c.loop-left.left
-    c.loop-left.was c.size_of-left-in-loop-left.result c.loop-left.invariant c.sweep.ensures c.size_of-left-in-loop-left.ensures
+    let same : c.sweep.new.relation.size ≡ c.rest.new.relation.size = c.sweep.ensures.size ∙ c.loop-left.invariant.size in
+    record {
+      size = same;
+      saturating = saturating-next c.args.triplets.now c.args.count c.args.flags (c.args.depth - 1) c.rest.new.relation.of
+          c.loop-left.relation.of c.sweep.new.relation.of c.loop-left.left c.loop-left.was c.rank-left-in-loop-left.result
+          c.loop-left.invariant.saturating c.sweep.ensures.swept
+          (c.rank-left-in-loop-left.ensures ∙ ap (λ (n : ℕ). rank n (entry c.sweep.new.relation.of))
+          (same ∙ c.rest.ensures.size ∙ c.requires.size));
+    }
 
-pub saturate-returns : goal.saturate-returns
-saturate-returns t c =
-    saturating-done c.args.triplets.now c.args.count c.args.flags (c.args.depth - 1) c.args.of.now c.rest.new.of c.loop-left.of c.loop-left.left
-    c.loop-left.was c.args.depth (deep c.args.depth c.if-depth-eq0.false) c.loop-left-test.false c.rest.ensures c.loop-left.invariant
+pub saturate-returns-clause-saturated : goal.saturate-returns-clause-saturated
+saturate-returns-clause-saturated t c =
+    saturating-done c.args.triplets.now c.args.count c.args.flags (c.args.depth - 1) c.args.relation.now.of c.rest.new.relation.of
+    c.loop-left.relation.of c.loop-left.left c.loop-left.was c.args.depth (deep c.args.depth c.if-depth-eq0.false) c.loop-left-test.false
+    c.rest.ensures.rested c.loop-left.invariant.saturating
 
-pub split-returns-then-is_tied : goal.split-returns-then-is_tied
-split-returns-then-is_tied t c =
-    divided-tied c.args.triplets.now c.args.count c.args.flags c.args.below c.args.of.now c.args.flag c.requires.ready.classes
-    c.requires.no_step_enlarges (sym c.is_tied.ensures ∙ c.if-is_tied.true)
+pub split-returns-then-is_tied-clause-divided : goal.split-returns-then-is_tied-clause-divided
+split-returns-then-is_tied-clause-divided t c =
+    divided-tied c.args.triplets.now c.args.count c.args.flags c.args.below c.args.relation.now.of c.args.flag
+    (classes-at c.requires.ready.size c.args.relation.now.classes) c.requires.no_step_enlarges (sym c.is_tied.ensures ∙ c.if-is_tied.true)
 
-pub split-returns-then-before-size_of : goal.split-returns-then-before-size_of
-split-returns-then-before-size_of t c =
-    divided-idle c.args.triplets.now c.args.count c.args.flags c.args.below c.args.flag c.args.of.now c.join.new.of c.saturate.new.of c.join-2.new.of
-    c.saturate-2.new.of c.share.new.of c.requires.ready.classes c.requires.no_step_enlarges c.requires.flags c.join.ensures c.saturate.ensures
-    c.join-2.ensures c.saturate-2.ensures c.share.ensures (omega (arith, c.size_of-before.ensures, c.size_of.ensures, c.if-before-size_of.true))
+pub split-returns-then-before-rank-clause-divided : goal.split-returns-then-before-rank-clause-divided
+split-returns-then-before-rank-clause-divided t c =
+    let here = c.requires.ready.size in
+    let there = c.saturate-2.ensures.size ∙ c.join-2.ensures.size ∙ here in
+    divided-idle c.args.triplets.now c.args.count c.args.flags c.args.below c.args.flag c.args.relation.now.of c.join.new.self.of
+    c.saturate.new.relation.of c.join-2.new.self.of c.saturate-2.new.relation.of c.share.new.self.of
+    (classes-at here c.args.relation.now.classes) c.requires.no_step_enlarges c.requires.flags
+    (joined-at here c.join.ensures.joined) c.saturate.ensures.saturated (joined-at here c.join-2.ensures.joined)
+    c.saturate-2.ensures.saturated (shared-at there c.share.ensures.shared)
+    (omega (
+      arith,
+      c.rank-before.ensures ∙ ap (λ (n : ℕ). rank n (entry c.args.relation.now.of)) here,
+      c.rank.ensures ∙ ap (λ (n : ℕ). rank n (entry c.share.new.self.of)) (c.share.ensures.size ∙ there),
+      c.if-before-rank.true,
+    ))
 
-pub split-returns : goal.split-returns
-split-returns t c =
-    divided-rested c.args.triplets.now c.args.count c.args.flags c.args.below c.args.flag c.args.of.now c.join.new.of c.saturate.new.of
-    c.join-2.new.of c.saturate-2.new.of c.share.new.of c.requires.ready.classes c.requires.no_step_enlarges c.requires.flags c.join.ensures
-    c.saturate.ensures c.join-2.ensures c.saturate-2.ensures c.share.ensures c.rest.new.of c.rest.ensures
+pub split-returns-clause-divided : goal.split-returns-clause-divided
+split-returns-clause-divided t c =
+    let here = c.requires.ready.size in
+    let there = c.saturate-2.ensures.size ∙ c.join-2.ensures.size ∙ here in
+    divided-rested c.args.triplets.now c.args.count c.args.flags c.args.below c.args.flag c.args.relation.now.of c.join.new.self.of
+    c.saturate.new.relation.of c.join-2.new.self.of c.saturate-2.new.relation.of c.share.new.self.of
+    (classes-at here c.args.relation.now.classes) c.requires.no_step_enlarges c.requires.flags
+    (joined-at here c.join.ensures.joined) c.saturate.ensures.saturated (joined-at here c.join-2.ensures.joined)
+    c.saturate-2.ensures.saturated (shared-at there c.share.ensures.shared) c.rest.new.relation.of c.rest.ensures.rested
 
 pub sweep-loop-flag-preserved : goal.sweep-loop-flag-preserved
-sweep-loop-flag-preserved t c = (
-  omega arith,
-  sweeping-next c.args.triplets.now c.args.count c.args.flags c.args.below c.loop-flag.flag c.args.of.now c.loop-flag.of
-      c.split.new.of c.loop-flag.invariant.1 c.split.ensures,
-)
+sweep-loop-flag-preserved t c =
+    record {
+      size = c.split.ensures.size ∙ c.loop-flag.invariant.size;
+      sweeping = sweeping-next c.args.triplets.now c.args.count c.args.flags c.args.below c.loop-flag.flag c.args.relation.now.of
+          c.loop-flag.relation.of c.split.new.relation.of c.loop-flag.invariant.sweeping c.split.ensures.divided;
+    }
+
+pub sweep-returns-2-clause-swept : goal.sweep-returns-2-clause-swept
+sweep-returns-2-clause-swept t c =
+    sweeping-done c.args.triplets.now c.args.count c.args.flags c.args.below (c.loop-flag.flag + 1) c.args.relation.now.of
+    c.split.new.relation.of (omega arith)
+    (sweeping-next c.args.triplets.now c.args.count c.args.flags c.args.below c.loop-flag.flag c.args.relation.now.of
+    c.loop-flag.relation.of c.split.new.relation.of c.loop-flag.invariant.sweeping c.split.ensures.divided)

@@ -2,6 +2,7 @@ use Prim.Native.Nat.{ℕ}
 use mathlib.Core.Path.{◌≡◌, refl, ◌∙◌, ap, subst}
 use native.Mathlib.Omega.{arith}
 use Rattle.relation.specs.clauses.Classes.{Classes, entry, rank}
+use Rattle.relation.proofs.ClassLaws.{classes-at}
 use Rattle.relation.proofs.RankLaws.{rank_most}
 use Rattle.steps.proofs.Resting.{settling-start, settling-next, settling-done}
 use Rattle.steps.proofs.rest.rest.Goals as goal
@@ -20,7 +21,7 @@ loop-left-init c =
     record {
       size = refl;
       settling = settling-start c.args.triplets.now c.args.count c.args.relation.now.of c.rank-left.result
-          (subst (λ (n : ℕ). Classes n c.args.relation.now.of) c.requires.size c.args.relation.now.classes)
+          (classes-at c.requires.size c.args.relation.now.classes)
           (c.rank-left.ensures ∙ ap (λ (n : ℕ). rank n (entry c.args.relation.now.of)) c.requires.size);
     }
 

@@ -3,7 +3,7 @@ use Prim.Native.Nat.{ℕ, ◌/◌, ◌%◌, ◌<◌}
 use mathlib.Core.Path.{◌≡◌, sym, ◌∙◌, ap, subst}
 use native.Mathlib.Omega.{arith}
 use lib.ListN.{get_or}
-use Rattle.relation.specs.clauses.Keeping.{Joined}
+use Rattle.relation.proofs.JoinLaws.{joined-at}
 use Rattle.steps.specs.Step.{Side, own-z, literal_at}
 use Rattle.steps.specs.Table.{z_names}
 use Rattle.steps.proofs.Placing.{x-among, y-among}
@@ -38,7 +38,5 @@ returns-clause-named c =
     (c.literal_at-q.ensures ∙ ap lit (y-among (c.args.pattern / 7 % 5) (omega arith)))
     c.literal_at-r.ensures
     c.join.ensures.joined
-    (subst (λ (n : ℕ). Joined n c.join.new.self.of c.args.y c.literal_at-q.result c.join-2.new.self.of) c.join.ensures.size
-    c.join-2.ensures.joined)
-    (subst (λ (n : ℕ). Joined n c.join-2.new.self.of c.args.z c.literal_at-r.result c.join-3.new.self.of)
-    (c.join-2.ensures.size ∙ c.join.ensures.size) c.join-3.ensures.joined)
+    (joined-at c.join.ensures.size c.join-2.ensures.joined)
+    (joined-at (c.join-2.ensures.size ∙ c.join.ensures.size) c.join-3.ensures.joined)

@@ -2,7 +2,7 @@
 use mathlib.Core.Path.{subst}
 use Prim.Native.Nat.{ℕ}
 use Rattle.relation.specs.clauses.Classes.{Classes, entry, kept}
-use Rattle.relation.proofs.ClassLaws.{relation-all, true-leads, contradictory-told}
+use Rattle.relation.proofs.ClassLaws.{relation-all, true-leads, contradictory-told, classes-at}
 use Rattle.relation.proofs.ShareLaws.{common-first, common-second}
 use Rattle.relation.proofs.classes.Relation.share.Goals as goal
 
@@ -18,7 +18,7 @@ returns-then-is_contradictory-clause-shared c =
 pub returns-then-is_contradictory-2-clause-shared : goal.returns-then-is_contradictory-2-clause-shared
 returns-then-is_contradictory-2-clause-shared c =
     record {
-      classes = subst (λ (n : ℕ). Classes n c.args.other.now.of) c.requires c.args.other.now.classes;
+      classes = classes-at c.requires c.args.other.now.classes;
       both = common-second (kept c.args.self.now.of) (kept c.args.other.now.of)
           (relation-all (entry c.args.self.now.of)
           (contradictory-told c.args.self.now.of c.is_contradictory-2.ensures c.if-is_contradictory-2.true));
