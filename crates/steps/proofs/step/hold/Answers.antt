@@ -11,23 +11,20 @@ use Rattle.steps.proofs.Stepping.{literal-inside, named-three}
 use Rattle.steps.proofs.step.hold.Goals as goal
 
 pub join-requires-2 : goal.join-requires-2
-join-requires-2 c = (
-  subst (λ (n : ℕ). c.args.y / 2 < n) (sym c.join.ensures.size) c.requires.x_bound.1,
-  subst (λ (n : ℕ). c.literal_at-q.result / 2 < n) (sym c.join.ensures.size)
-      (subst (λ (l : ℕ). l / 2 < c.args.relation.now.size) (sym c.literal_at-q.ensures)
-      (literal-inside c.args.relation.now.size c.args.x c.args.y c.args.z c.requires.x_bound.0 c.requires.x_bound.1 c.requires.x_bound.2
-      (get_or z_names (c.args.pattern / 7 % 5) own-z))),
-)
+join-requires-2 c =
+    let inside : c.literal_at-q.result / 2 < c.args.relation.now.size =
+    subst (λ (l : ℕ). l / 2 < c.args.relation.now.size) (sym c.literal_at-q.ensures)
+    (literal-inside c.args.relation.now.size c.args.x c.args.y c.args.z c.requires.x_bound.0 c.requires.x_bound.1 c.requires.x_bound.2
+    (get_or z_names (c.args.pattern / 7 % 5) own-z)) in
+    omega (arith, c.join.ensures.size)
 
 pub join-requires-3 : goal.join-requires-3
 join-requires-3 c =
-    let same : c.join-2.new.self.size ≡ c.args.relation.now.size = c.join-2.ensures.size ∙ c.join.ensures.size in (
-      subst (λ (n : ℕ). c.args.z / 2 < n) (sym same) c.requires.x_bound.2,
-      subst (λ (n : ℕ). c.literal_at-r.result / 2 < n) (sym same)
-          (subst (λ (l : ℕ). l / 2 < c.args.relation.now.size) (sym c.literal_at-r.ensures)
-          (literal-inside c.args.relation.now.size c.args.x c.args.y c.args.z c.requires.x_bound.0 c.requires.x_bound.1 c.requires.x_bound.2
-          (get_or z_names (c.args.pattern % 7) own-z))),
-    )
+    let inside : c.literal_at-r.result / 2 < c.args.relation.now.size =
+    subst (λ (l : ℕ). l / 2 < c.args.relation.now.size) (sym c.literal_at-r.ensures)
+    (literal-inside c.args.relation.now.size c.args.x c.args.y c.args.z c.requires.x_bound.0 c.requires.x_bound.1 c.requires.x_bound.2
+    (get_or z_names (c.args.pattern % 7) own-z)) in
+    omega (arith, c.join.ensures.size, c.join-2.ensures.size)
 
 pub returns-clause-named : goal.returns-clause-named
 returns-clause-named c =
