@@ -56,8 +56,10 @@ fn z_place(a: u16, b: u16, c: u16) -> u16
 fn apart(a: u16, b: u16, c: u16) -> bool
     ensures { result ≡ true → Patterned a b c 104 }
 {
-    let (a, b, c) = (a / 2, b / 2, c / 2);
-    a != 0 && b != 0 && c != 0 && b != a && c != a && c != b
+    if a / 2 == 0 || b / 2 == 0 || c / 2 == 0 {
+        return false;
+    }
+    b / 2 != a / 2 && c / 2 != a / 2 && c / 2 != b / 2
 }
 
 // The pattern of x, y and z, which lead to a, b and c.

@@ -1,7 +1,7 @@
 use Prim.Native.Nat.{ℕ}
-use mathlib.Core.Path.{◌≡◌, refl, ◌∙◌, ap, subst}
+use mathlib.Core.Path.{◌≡◌, refl, ◌∙◌, ap}
 use native.Mathlib.Omega.{arith}
-use Rattle.relation.specs.clauses.Classes.{Classes, entry, rank}
+use Rattle.relation.specs.clauses.Classes.{entry, rank}
 use Rattle.relation.proofs.ClassLaws.{classes-at}
 use Rattle.relation.proofs.RankLaws.{rank_most}
 use Rattle.steps.proofs.Resting.{settling-start, settling-next, settling-done}
