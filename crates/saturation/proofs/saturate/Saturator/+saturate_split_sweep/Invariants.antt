@@ -3,7 +3,7 @@
 use Prim.Native.Nat.{◌+◌, ◌*◌, ◌-◌}
 use mathlib.Core.Path.{◌≡◌}
 use Rattle.saturation.proofs.Saturating.{Sweeping, Saturating}
-use Rattle.saturation.proofs.saturate.+saturate_split_sweep.Given as goal
+use Rattle.saturation.proofs.saturate.Saturator.+saturate_split_sweep.Given as goal
 
 abbrev pub decreases-saturate : goal.decreases-saturate
 decreases-saturate l = 3 * l.depth
@@ -18,7 +18,7 @@ abbrev pub invariant-saturate-loop-left : goal.invariant-saturate-loop-left
 invariant-saturate-loop-left l =
     record {
       size : l.relation.size ≡ l.initial.relation.size;
-      saturating : Saturating l.triplets l.count l.flags (l.depth - 1) l.initial.relation.of l.relation.of l.left l.was;
+      saturating : Saturating l.self.triplets.now l.self.count l.self.flags (l.depth - 1) l.initial.relation.of l.relation.of l.left l.was;
     }
 
 abbrev pub decreases-saturate-loop-left : goal.decreases-saturate-loop-left
@@ -28,5 +28,5 @@ abbrev pub invariant-sweep-loop-flag : goal.invariant-sweep-loop-flag
 invariant-sweep-loop-flag l =
     record {
       size : l.relation.size ≡ l.initial.relation.size;
-      sweeping : Sweeping l.triplets l.count l.flags l.below l.flag l.initial.relation.of l.relation.of;
+      sweeping : Sweeping l.self.triplets.now l.self.count l.self.flags l.below l.flag l.initial.relation.of l.relation.of;
     }

@@ -8,7 +8,7 @@ use Rattle.relation.proofs.JoinLaws.{joined-at}
 use Rattle.relation.proofs.ShareLaws.{shared-at}
 use Rattle.relation.proofs.RankLaws.{rank_most}
 use Rattle.saturation.proofs.Saturating.{saturating-next, saturating-done, sweeping-next, sweeping-done, divided-tied, divided-idle, divided-rested}
-use Rattle.saturation.proofs.saturate.+saturate_split_sweep.Goals as goal
+use Rattle.saturation.proofs.saturate.Saturator.+saturate_split_sweep.Goals as goal
 
 -- the depth below a depth that is not 0
 deep : (depth : ℕ) → (depth ≡ 0 → ⊥) → depth ≡ suc (depth - 1)
@@ -28,29 +28,29 @@ saturate-loop-left-preserved t c =
     let same : c.sweep.new.relation.size ≡ c.rest.new.relation.size = c.sweep.ensures.size ∙ c.loop-left.invariant.size in
     record {
       size = same;
-      saturating = saturating-next c.args.triplets.now c.args.count c.args.flags (c.args.depth - 1) c.rest.new.relation.of
+      saturating = saturating-next c.args.self.now.triplets.now c.args.self.now.count c.args.self.now.flags (c.args.depth - 1) c.rest.new.relation.of
           c.loop-left.relation.of c.sweep.new.relation.of c.loop-left.left c.loop-left.was c.rank-left-in-loop-left.result
           c.loop-left.invariant.saturating c.sweep.ensures.swept
           (c.rank-left-in-loop-left.ensures ∙ ap (λ (n : ℕ). rank n (entry c.sweep.new.relation.of))
-          (same ∙ c.rest.ensures.size ∙ c.requires.size));
+          (same ∙ c.rest.ensures.size ∙ c.requires));
     }
 
 pub saturate-returns-clause-saturated : goal.saturate-returns-clause-saturated
 saturate-returns-clause-saturated t c =
-    saturating-done c.args.triplets.now c.args.count c.args.flags (c.args.depth - 1) c.args.relation.now.of c.rest.new.relation.of
+    saturating-done c.args.self.now.triplets.now c.args.self.now.count c.args.self.now.flags (c.args.depth - 1) c.args.relation.now.of c.rest.new.relation.of
     c.loop-left.relation.of c.loop-left.left c.loop-left.was c.args.depth (deep c.args.depth c.if-depth-eq0.false) c.loop-left-test.false
     c.rest.ensures.rested c.loop-left.invariant.saturating
 
 pub split-returns-then-is_tied-clause-divided : goal.split-returns-then-is_tied-clause-divided
 split-returns-then-is_tied-clause-divided t c =
-    divided-tied c.args.triplets.now c.args.count c.args.flags c.args.below c.args.relation.now.of c.args.flag
-    (classes-at c.requires.ready.size c.args.relation.now.classes) c.requires.no_step_enlarges (sym c.is_tied.ensures ∙ c.if-is_tied.true)
+    divided-tied c.args.self.now.triplets.now c.args.self.now.count c.args.self.now.flags c.args.below c.args.relation.now.of c.args.flag
+    (classes-at c.requires.size c.args.relation.now.classes) c.requires.no_step_enlarges (sym c.is_tied.ensures ∙ c.if-is_tied.true)
 
 pub split-returns-then-before-rank-clause-divided : goal.split-returns-then-before-rank-clause-divided
 split-returns-then-before-rank-clause-divided t c =
-    let here = c.requires.ready.size in
+    let here = c.requires.size in
     let there = c.saturate-2.ensures.size ∙ c.join-2.ensures.size ∙ here in
-    divided-idle c.args.triplets.now c.args.count c.args.flags c.args.below c.args.flag c.args.relation.now.of c.join.new.self.of
+    divided-idle c.args.self.now.triplets.now c.args.self.now.count c.args.self.now.flags c.args.below c.args.flag c.args.relation.now.of c.join.new.self.of
     c.saturate.new.relation.of c.join-2.new.self.of c.saturate-2.new.relation.of c.share.new.self.of
     (classes-at here c.args.relation.now.classes) c.requires.no_step_enlarges c.requires.flags
     (joined-at here c.join.ensures.joined) c.saturate.ensures.saturated (joined-at here c.join-2.ensures.joined)
@@ -64,9 +64,9 @@ split-returns-then-before-rank-clause-divided t c =
 
 pub split-returns-clause-divided : goal.split-returns-clause-divided
 split-returns-clause-divided t c =
-    let here = c.requires.ready.size in
+    let here = c.requires.size in
     let there = c.saturate-2.ensures.size ∙ c.join-2.ensures.size ∙ here in
-    divided-rested c.args.triplets.now c.args.count c.args.flags c.args.below c.args.flag c.args.relation.now.of c.join.new.self.of
+    divided-rested c.args.self.now.triplets.now c.args.self.now.count c.args.self.now.flags c.args.below c.args.flag c.args.relation.now.of c.join.new.self.of
     c.saturate.new.relation.of c.join-2.new.self.of c.saturate-2.new.relation.of c.share.new.self.of
     (classes-at here c.args.relation.now.classes) c.requires.no_step_enlarges c.requires.flags
     (joined-at here c.join.ensures.joined) c.saturate.ensures.saturated (joined-at here c.join-2.ensures.joined)
@@ -76,13 +76,13 @@ pub sweep-loop-flag-preserved : goal.sweep-loop-flag-preserved
 sweep-loop-flag-preserved t c =
     record {
       size = c.split.ensures.size ∙ c.loop-flag.invariant.size;
-      sweeping = sweeping-next c.args.triplets.now c.args.count c.args.flags c.args.below c.loop-flag.flag c.args.relation.now.of
+      sweeping = sweeping-next c.args.self.now.triplets.now c.args.self.now.count c.args.self.now.flags c.args.below c.loop-flag.flag c.args.relation.now.of
           c.loop-flag.relation.of c.split.new.relation.of c.loop-flag.invariant.sweeping c.split.ensures.divided;
     }
 
 pub sweep-returns-2-clause-swept : goal.sweep-returns-2-clause-swept
 sweep-returns-2-clause-swept t c =
-    sweeping-done c.args.triplets.now c.args.count c.args.flags c.args.below (c.loop-flag.flag + 1) c.args.relation.now.of
+    sweeping-done c.args.self.now.triplets.now c.args.self.now.count c.args.self.now.flags c.args.below (c.loop-flag.flag + 1) c.args.relation.now.of
     c.split.new.relation.of (omega arith)
-    (sweeping-next c.args.triplets.now c.args.count c.args.flags c.args.below c.loop-flag.flag c.args.relation.now.of
+    (sweeping-next c.args.self.now.triplets.now c.args.self.now.count c.args.self.now.flags c.args.below c.loop-flag.flag c.args.relation.now.of
     c.loop-flag.relation.of c.split.new.relation.of c.loop-flag.invariant.sweeping c.split.ensures.divided)
