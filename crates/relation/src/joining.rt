@@ -17,7 +17,8 @@ fn moved_to(w: u16, lo: u16, hi: u16) -> u16
     w
 }
 
-// Joins the classes of two leaders, of which lo is the lower. No variable below that of hi leads to hi.
+// Joins the classes of two leaders, of which lo is the lower. No variable below that of hi leads to hi. It takes the array and
+// not the relation: on the way the array keeps none.
 fn merge(of: &mut [u16; VARIABLES], size: usize, lo: u16, hi: u16)
     requires classes { Classes size of.old }
     requires leaders { Leaders size (entry of.old) lo hi }

@@ -38,7 +38,7 @@ fn shared_leader(of: &[u16; VARIABLES], other: &[u16; VARIABLES], v: usize) -> u
 }
 
 // What two consistent relations share. From the highest variable down, each variable's search meets only entries that are
-// still the old ones.
+// still the old ones. It takes the arrays and not the relations: on the way the first array keeps none.
 fn intersect(of: &mut [u16; VARIABLES], other: &[u16; VARIABLES], size: usize)
     requires classes { Classes size of.old }
     requires classes_2 { Classes size other.now }

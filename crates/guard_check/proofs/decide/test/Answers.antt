@@ -18,7 +18,8 @@ returns-then-equal-2-clause-tested c =
 
 pub returns-then-is_contradictory-clause-tested : goal.returns-then-is_contradictory-clause-tested
 returns-then-is_contradictory-clause-tested c =
-    tested-high c.args.saturator.now.triplets.now c.args.saturator.now.count c.args.saturator.now.flags c.args.depth c.args.flag c.args.relation.now.of c.join.new.self.of
+    tested-high c.args.saturator.now.triplets.now c.args.saturator.now.count c.args.saturator.now.flags
+    c.args.depth c.args.flag c.args.relation.now.of c.join.new.self.of
     c.saturate.new.relation.of (joined-at c.requires.size c.join.ensures.joined) c.saturate.ensures.saturated
     c.join-then-is_contradictory.new.self.of c.saturate-then-is_contradictory.new.relation.of
     (sym c.is_contradictory.ensures ∙ c.if-is_contradictory.true)
@@ -26,6 +27,7 @@ returns-then-is_contradictory-clause-tested c =
 
 pub returns-clause-tested : goal.returns-clause-tested
 returns-clause-tested c =
-    tested_low c.args.saturator.now.triplets.now c.args.saturator.now.count c.args.saturator.now.flags c.args.depth c.args.flag c.args.relation.now.of c.join.new.self.of
+    tested_low c.args.saturator.now.triplets.now c.args.saturator.now.count c.args.saturator.now.flags
+    c.args.depth c.args.flag c.args.relation.now.of c.join.new.self.of
     c.saturate.new.relation.of (joined-at c.requires.size c.join.ensures.joined) c.saturate.ensures.saturated
     (sym c.is_contradictory.ensures ∙ c.if-is_contradictory.false)

@@ -9,23 +9,29 @@ use Rattle.steps.proofs.step.step.Goals as goal
 
 pub returns-then-apart-clause-stepped : goal.returns-then-apart-clause-stepped
 returns-then-apart-clause-stepped c =
-    let pat : Patterned (lead (at c.args.relation.now.of) c.args.x) (lead (at c.args.relation.now.of) c.args.y) (lead (at c.args.relation.now.of) c.args.z) 104 =
+    let f : ℕ → ℕ = at c.args.relation.now.of in
+    let pat : Patterned (lead f c.args.x) (lead f c.args.y) (lead f c.args.z) 104 =
     patterned c.lead-a.ensures.leads c.lead-b.ensures.leads c.lead-c.ensures.leads (c.apart.ensures c.if-apart.true) in
-    stepped-none c.args.relation.now.size c.args.kind c.args.x c.args.y c.args.z 104 c.args.relation.now.of c.args.relation.now.classes pat
+    stepped-none c.args.relation.now.size c.args.kind c.args.x c.args.y c.args.z 104 c.args.relation.now.of
+    c.args.relation.now.classes pat
     (entry-own c.args.kind c.requires.kinds)
 
 pub returns-then-next-before-clause-stepped : goal.returns-then-next-before-clause-stepped
 returns-then-next-before-clause-stepped c =
-    let pat : Patterned (lead (at c.args.relation.now.of) c.args.x) (lead (at c.args.relation.now.of) c.args.y) (lead (at c.args.relation.now.of) c.args.z)
+    let f : ℕ → ℕ = at c.args.relation.now.of in
+    let pat : Patterned (lead f c.args.x) (lead f c.args.y) (lead f c.args.z)
     c.pattern_of-before.result = patterned c.lead-a.ensures.leads c.lead-b.ensures.leads c.lead-c.ensures.leads c.pattern_of-before.ensures in
-    stepped-none c.args.relation.now.size c.args.kind c.args.x c.args.y c.args.z c.pattern_of-before.result c.args.relation.now.of c.args.relation.now.classes pat
+    stepped-none c.args.relation.now.size c.args.kind c.args.x c.args.y c.args.z c.pattern_of-before.result c.args.relation.now.of
+    c.args.relation.now.classes pat
     (sym c.after-next.ensures ∙ c.if-next-before.true)
 
 pub returns-then-next-eq-CONTRADICTORY-clause-stepped : goal.returns-then-next-eq-CONTRADICTORY-clause-stepped
 returns-then-next-eq-CONTRADICTORY-clause-stepped c =
-    let pat : Patterned (lead (at c.args.relation.now.of) c.args.x) (lead (at c.args.relation.now.of) c.args.y) (lead (at c.args.relation.now.of) c.args.z)
+    let f : ℕ → ℕ = at c.args.relation.now.of in
+    let pat : Patterned (lead f c.args.x) (lead f c.args.y) (lead f c.args.z)
     c.pattern_of-before.result = patterned c.lead-a.ensures.leads c.lead-b.ensures.leads c.lead-c.ensures.leads c.pattern_of-before.ensures in
-    stepped-broken c.args.relation.now.size c.args.kind c.args.x c.args.y c.args.z c.pattern_of-before.result c.args.relation.now.of c.args.relation.now.classes pat
+    stepped-broken c.args.relation.now.size c.args.kind c.args.x c.args.y c.args.z c.pattern_of-before.result c.args.relation.now.of
+    c.args.relation.now.classes pat
     c.join.new.self.of (sym c.after-next.ensures ∙ c.if-next-eq-CONTRADICTORY.true) c.join.ensures.joined
 
 pub hold-requires : goal.hold-requires
@@ -38,9 +44,11 @@ hold-requires c =
 
 pub returns-clause-stepped : goal.returns-clause-stepped
 returns-clause-stepped c =
-    let pat : Patterned (lead (at c.args.relation.now.of) c.args.x) (lead (at c.args.relation.now.of) c.args.y) (lead (at c.args.relation.now.of) c.args.z)
+    let f : ℕ → ℕ = at c.args.relation.now.of in
+    let pat : Patterned (lead f c.args.x) (lead f c.args.y) (lead f c.args.z)
     c.pattern_of-before.result = patterned c.lead-a.ensures.leads c.lead-b.ensures.leads c.lead-c.ensures.leads c.pattern_of-before.ensures in
-    stepped-named c.args.relation.now.size c.args.kind c.args.x c.args.y c.args.z c.pattern_of-before.result c.args.relation.now.of c.args.relation.now.classes pat
+    stepped-named c.args.relation.now.size c.args.kind c.args.x c.args.y c.args.z c.pattern_of-before.result c.args.relation.now.of
+    c.args.relation.now.classes pat
     c.hold.new.relation.of (λ e. c.if-next-eq-CONTRADICTORY.false (c.after-next.ensures ∙ e))
     (subst (λ (e : ℕ). Named c.args.relation.now.size e c.args.x c.args.y c.args.z c.args.relation.now.of c.hold.new.relation.of) c.after-next.ensures
     c.hold.ensures.named)

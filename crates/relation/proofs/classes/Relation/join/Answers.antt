@@ -28,28 +28,31 @@ returns-then-a-b-2-clause-joined c =
 
 pub merge-requires : goal.merge-requires
 merge-requires c =
+    let k = c.args.self.now.classes in
     record {
-      classes = c.args.self.now.classes;
-      leaders = leaders-of c.args.self.now.size (entry c.args.self.now.of) c.args.l c.args.m c.lead-a.result c.lead-b.result c.args.self.now.classes.canonical
-          (contradictory-told c.args.self.now.of c.is_contradictory.ensures c.if-is_contradictory.false) c.lead-a.ensures.leads c.lead-b.ensures.leads c.if-a-b-3.true c.requires.1;
+      classes = k;
+      leaders = leaders-of c.args.self.now.size (entry c.args.self.now.of) c.args.l c.args.m c.lead-a.result c.lead-b.result k.canonical
+          (contradictory-told c.args.self.now.of c.is_contradictory.ensures c.if-is_contradictory.false) c.lead-a.ensures.leads
+          c.lead-b.ensures.leads c.if-a-b-3.true c.requires.1;
     }
 
 pub returns-then-a-b-3-clause-joined : goal.returns-then-a-b-3-clause-joined
 returns-then-a-b-3-clause-joined c =
-    joined-leads c.args.self.now.size c.args.self.now.of c.merge.new.of c.args.l c.args.m c.lead-a.result c.lead-b.result c.args.self.now.classes
-    c.lead-a.ensures.leads c.lead-b.ensures.leads c.merge.ensures
+    joined-leads c.args.self.now.size c.args.self.now.of c.merge.new.of c.args.l c.args.m c.lead-a.result c.lead-b.result
+    c.args.self.now.classes c.lead-a.ensures.leads c.lead-b.ensures.leads c.merge.ensures
 
 pub merge-requires-2 : goal.merge-requires-2
 merge-requires-2 c =
+    let k = c.args.self.now.classes in
     record {
-      classes = c.args.self.now.classes;
-      leaders = leaders-of c.args.self.now.size (entry c.args.self.now.of) c.args.m c.args.l c.lead-b.result c.lead-a.result c.args.self.now.classes.canonical
-          (contradictory-told c.args.self.now.of c.is_contradictory.ensures c.if-is_contradictory.false) c.lead-b.ensures.leads c.lead-a.ensures.leads (below c.if-a-b-2.false c.if-a-b-3.false)
-          c.requires.0;
+      classes = k;
+      leaders = leaders-of c.args.self.now.size (entry c.args.self.now.of) c.args.m c.args.l c.lead-b.result c.lead-a.result k.canonical
+          (contradictory-told c.args.self.now.of c.is_contradictory.ensures c.if-is_contradictory.false) c.lead-b.ensures.leads
+          c.lead-a.ensures.leads (below c.if-a-b-2.false c.if-a-b-3.false) c.requires.0;
     }
 
 pub returns-clause-joined : goal.returns-clause-joined
 returns-clause-joined c =
     joined-turned c.args.self.now.size c.args.self.now.of c.merge-2.new.of c.args.l c.args.m
-    (joined-leads c.args.self.now.size c.args.self.now.of c.merge-2.new.of c.args.m c.args.l c.lead-b.result c.lead-a.result c.args.self.now.classes
-    c.lead-b.ensures.leads c.lead-a.ensures.leads c.merge-2.ensures)
+    (joined-leads c.args.self.now.size c.args.self.now.of c.merge-2.new.of c.args.m c.args.l c.lead-b.result c.lead-a.result
+    c.args.self.now.classes c.lead-b.ensures.leads c.lead-a.ensures.leads c.merge-2.ensures)
