@@ -2,7 +2,7 @@
 ghost use Rattle.std.specs.Prelude.{◌≡◌, ◌+◌, ◌*◌, ◌<◌};
 ghost use Rattle.steps.specs.clauses.Resting.{in_use, Passed, Rested, Readable};
 
-use crate::step::step;
+use crate::step::Triplet;
 use notation::ceilings::FLAGS;
 use relation::classes::Relation;
 
@@ -20,11 +20,13 @@ fn pass(relation: &mut Relation, triplets: &[u16], count: usize)
         if relation.is_contradictory() {
             return;
         }
-        let kind = triplets[3 * j] as usize;
-        let y = triplets[3 * j + 1];
-        let z = triplets[3 * j + 2];
-        let x = 2 * (FIRST + j) as u16;
-        step(relation, kind, x, y, z);
+        let triplet = Triplet {
+            kind: triplets[3 * j] as usize,
+            x: 2 * (FIRST + j) as u16,
+            y: triplets[3 * j + 1],
+            z: triplets[3 * j + 2],
+        };
+        triplet.step(relation);
     }
 }
 

@@ -8,6 +8,16 @@ ghost use Rattle.steps.specs.clauses.Resting.{Usable, Named, Stepped};
 use crate::after;
 use relation::classes::{Relation, turned};
 
+// A triplet x = (y implies z), of kind 0, or x = (y same as z), of kind 1, by its literals. The kind stays the number that stands
+// in the list of triplets and tells the half of the table.
+#[derive(Clone, Copy)]
+pub struct Triplet {
+    pub kind: usize,
+    pub x: u16,
+    pub y: u16,
+    pub z: u16,
+}
+
 // The entry for contradiction.
 const CONTRADICTORY: usize = 255;
 
@@ -73,58 +83,60 @@ fn pattern_of(a: u16, b: u16, c: u16) -> usize
     (35 * x + 7 * y + z) as usize
 }
 
-// The literal that a place in the list of names stands for. The names of x and y are the first of those of z.
-fn literal_at(place: usize, x: u16, y: u16, z: u16) -> u16
-    requires place_bound { place ≤ 6 }
-    requires x_bound { (x + 1 < 2 ^ 16) × (y + 1 < 2 ^ 16) }
-    ensures { result ≡ literal_at x y z (get_or z_names place own-z) }
-{
-    match place {
-        0 => 1,
-        1 => 0,
-        2 => x,
-        3 => turned(x, 1),
-        4 => y,
-        5 => turned(y, 1),
-        _ => z,
+impl Triplet {
+    // The literal that a place in the list of names stands for. The names of x and y are the first of those of z.
+    fn literal_at(self, place: usize) -> u16
+        requires place_bound { place ≤ 6 }
+        requires x_bound { (self.x + 1 < 2 ^ 16) × (self.y + 1 < 2 ^ 16) }
+        ensures { result ≡ literal_at self.x self.y self.z (get_or z_names place own-z) }
+    {
+        match place {
+            0 => 1,
+            1 => 0,
+            2 => self.x,
+            3 => turned(self.x, 1),
+            4 => self.y,
+            5 => turned(self.y, 1),
+            _ => self.z,
+        }
     }
-}
 
-// Joins x, y and z with what the pattern names them.
-fn hold(relation: &mut Relation, pattern: usize, x: u16, y: u16, z: u16)
-    requires pattern_bound { pattern < 105 }
-    requires x_bound { (x / 2 < relation.old.size) × (y / 2 < relation.old.size) × (z / 2 < relation.old.size) }
-    ensures named { Named relation.old.size pattern x y z relation.old.of relation.new.of }
-    ensures size { relation.new.size ≡ relation.old.size }
-{
-    let p = literal_at(pattern / 35, x, y, z);
-    relation.join(x, p);
-    let q = literal_at(pattern / 7 % 5, x, y, z);
-    relation.join(y, q);
-    let r = literal_at(pattern % 7, x, y, z);
-    relation.join(z, r);
-}
+    // Joins x, y and z with what the pattern names them.
+    fn hold(self, relation: &mut Relation, pattern: usize)
+        requires pattern_bound { pattern < 105 }
+        requires x_bound { (self.x / 2 < relation.old.size) × (self.y / 2 < relation.old.size) × (self.z / 2 < relation.old.size) }
+        ensures named { Named relation.old.size pattern self.x self.y self.z relation.old.of relation.new.of }
+        ensures size { relation.new.size ≡ relation.old.size }
+    {
+        let p = self.literal_at(pattern / 35);
+        relation.join(self.x, p);
+        let q = self.literal_at(pattern / 7 % 5);
+        relation.join(self.y, q);
+        let r = self.literal_at(pattern % 7);
+        relation.join(self.z, r);
+    }
 
-// A step on a triplet x = (y implies z) or x = (y same as z).
-pub fn step(relation: &mut Relation, kind: usize, x: u16, y: u16, z: u16)
-    requires { Usable relation.old.size kind x y z }
-    ensures stepped { Stepped relation.old.size kind x y z relation.old.of relation.new.of }
-    ensures size { relation.new.size ≡ relation.old.size }
-{
-    let a = relation.lead(x);
-    let b = relation.lead(y);
-    let c = relation.lead(z);
-    if apart(a, b, c) {
-        return;
+    // A step on it.
+    pub fn step(self, relation: &mut Relation)
+        requires { Usable relation.old.size self.kind self.x self.y self.z }
+        ensures stepped { Stepped relation.old.size self.kind self.x self.y self.z relation.old.of relation.new.of }
+        ensures size { relation.new.size ≡ relation.old.size }
+    {
+        let a = relation.lead(self.x);
+        let b = relation.lead(self.y);
+        let c = relation.lead(self.z);
+        if apart(a, b, c) {
+            return;
+        }
+        let before = pattern_of(a, b, c);
+        let next = after(self.kind, before) as usize;
+        if next == before {
+            return;
+        }
+        if next == CONTRADICTORY {
+            relation.join(0, 1);
+            return;
+        }
+        self.hold(relation, next);
     }
-    let before = pattern_of(a, b, c);
-    let next = after(kind, before) as usize;
-    if next == before {
-        return;
-    }
-    if next == CONTRADICTORY {
-        relation.join(0, 1);
-        return;
-    }
-    hold(relation, next, x, y, z);
 }
