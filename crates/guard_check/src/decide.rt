@@ -1,49 +1,40 @@
 // The answer for triplets, by saturation and the trial of flags.
+ghost use Rattle.std.specs.Prelude.{◌≡◌};
 ghost use Rattle.truth.specs.clauses.Computed.{Triplets};
 ghost use Rattle.relation.specs.clauses.Classes.{kept};
-ghost use Rattle.steps.specs.clauses.Resting.{triplets_at};
+ghost use Rattle.steps.specs.clauses.Resting.{in_use, triplets_at};
 ghost use Rattle.saturation.specs.Saturation.{Stable, Flags};
-ghost use Rattle.saturation.specs.clauses.Saturating.{Ready};
 ghost use Rattle.guard_check.specs.clauses.Deciding.{Tested, Decided};
 
-use notation::ceilings::VARIABLES;
-use relation::classes::{equal, fresh, is_contradictory, turned};
-use relation::joining::join;
-use saturation::saturate::saturate;
+use relation::classes::{Relation, turned};
+use saturation::saturate::Saturator;
 use saturation::verdict::Verdict;
 use steps::rest::FIRST;
 
 // Fixes a flag: to 0, or to 1 where 0 is contradictory, and saturates. Answers the value. A flag that is tied has it already.
-fn test(
-    of: &mut [u16; VARIABLES],
-    triplets: &[u16],
-    count: usize,
-    flags: usize,
-    flag: usize,
-    depth: u64,
-) -> u64
-    requires ready { Ready triplets.now count flags of.old }
-    requires stable { Stable (Flags flags) (triplets_at triplets.now count) depth (kept of.old) }
-    requires flags { Flags flags flag }
-    ensures { Tested triplets.now count flags depth flag of.old result of.new }
+fn test(saturator: &Saturator, relation: &mut Relation, flag: usize, depth: u64) -> u64
+    requires size { relation.old.size ≡ in_use saturator.now.count }
+    requires stable { Stable (Flags saturator.now.flags) (triplets_at saturator.now.triplets.now saturator.now.count) depth (kept relation.old.of) }
+    requires flags { Flags saturator.now.flags flag }
+    ensures tested { Tested saturator.now.triplets.now saturator.now.count saturator.now.flags depth flag relation.old.of result relation.new.of }
+    ensures size { relation.new.size ≡ relation.old.size }
 {
     let on = 2 * flag as u16;
-    if equal(&*of, on, 0) {
+    if relation.equal(on, 0) {
         return 1;
     }
-    if equal(&*of, on, 1) {
+    if relation.equal(on, 1) {
         return 0;
     }
-    let size = FIRST + count;
-    let mut off = *of;
-    join(&mut off, size, on + 1, 0);
-    saturate(&mut off, triplets, count, flags, depth);
-    if is_contradictory(&off) {
-        join(of, size, on, 0);
-        saturate(of, triplets, count, flags, depth);
+    let mut off = *relation;
+    off.join(on + 1, 0);
+    saturator.saturate(&mut off, depth);
+    if off.is_contradictory() {
+        relation.join(on, 0);
+        saturator.saturate(relation, depth);
         return 1;
     }
-    *of = off;
+    *relation = off;
     0
 }
 
@@ -52,21 +43,23 @@ pub fn decide(triplets: &[u16], count: usize, flags: usize, root: u16, depth: u6
     requires { Triplets flags triplets.now count root }
     ensures { Decided triplets.now count flags root depth result }
 {
-    let start = fresh();
-    let mut of = start.of;
-    join(&mut of, FIRST + count, turned(root, 1), 0);
-    saturate(&mut of, triplets, count, flags, depth);
-    if is_contradictory(&of) {
+    let saturator = Saturator {
+        triplets,
+        count,
+        flags,
+    };
+    let mut relation = Relation::fresh().over(FIRST + count);
+    relation.join(turned(root, 1), 0);
+    saturator.saturate(&mut relation, depth);
+    if relation.is_contradictory() {
         return Verdict::Covered;
     }
     let mut state: u64 = 0;
-    let mut done: usize = 0;
-    while done < flags {
-        let bit = test(&mut of, triplets, count, flags, done + 1, depth);
+    for done in 0..flags {
+        let bit = test(&saturator, &mut relation, done + 1, depth);
         state = 2 * state + bit;
-        done += 1;
     }
-    if is_contradictory(&of) {
+    if relation.is_contradictory() {
         return Verdict::Undecided;
     }
     Verdict::Gap(state)

@@ -1,7 +1,7 @@
 -- What an array of classes keeps is a relation, and each literal equals the one to which it leads.
 use Prim.Native.Nat.{ℕ, zero, suc, ◌+◌, ◌*◌, ◌/◌, ◌%◌, ◌≤◌, ◌<◌}
-use mathlib.Core.Path.{◌≡◌, refl, sym, ◌∙◌, ap, ap₂}
-use mathlib.Core.Bool.{true, false}
+use mathlib.Core.Path.{◌≡◌, refl, sym, ◌∙◌, ap, ap₂, subst}
+use mathlib.Core.Bool.{Bool, true, false}
 use mathlib.Core.Logic.{◌⊎◌, inl, inr, ⊎_elim}
 use mathlib.Core.List.{List, [], ◌∷◌}
 use native.Mathlib.Omega.{arith}
@@ -176,6 +176,10 @@ contradictory-is f =
     (λ e.
     ⊎_elim (λ (c : contradictory f ≡ true). c) (λ (c : contradictory f ≡ false). absurd (apart f c e)) (either (contradictory f)))
 
+-- what an array says of contradiction, asked by a test
+pub contradictory-told : (xs : List ℕ) {a b : Bool} → a ≡ relation (entry xs) 0 1 → a ≡ b → contradictory (entry xs) ≡ b
+contradictory-told xs e t = contradictory-is (entry xs) ∙ sym e ∙ t
+
 -- a variable is tied where it equals true or false
 pub tied-cases : (R : Rel) (v : ℕ) → tied R v ≡ true → (R (2 * v) 0 ≡ true) ⊎ (R (2 * v) 1 ≡ true)
 unfolding tied
@@ -266,3 +270,7 @@ lowers n xs k = record { long = k.long; lower = k.canonical.lower }
 pub classes-more : (n m : ℕ) (xs : List ℕ) → n ≤ m → m ≤ variable_ceiling → Classes n xs → Classes m xs
 classes-more n m xs h fits k =
     record { long = k.long; fits = fits; canonical = canonical-more n m (entry xs) h k.canonical }
+
+-- by another name of the number of variables
+pub classes-at : {n m : ℕ} {xs : List ℕ} → n ≡ m → Classes n xs → Classes m xs
+classes-at {n} {m} {xs} e = subst (λ (i : ℕ). Classes i xs) e

@@ -263,3 +263,7 @@ joined-broken n xs l m k i p d =
   where
     false-is : entry (set xs 0 1) 0 ≡ 1
     false-is = get_or-set_same xs 0 1 0 (omega (arith, k.long))
+
+-- by another name of the number of variables
+pub joined-at : {n m l j : ℕ} {xs ys : List ℕ} → n ≡ m → Joined n xs l j ys → Joined m xs l j ys
+joined-at {n} {m} {l} {j} {xs} {ys} e = subst (λ (i : ℕ). Joined i xs l j ys) e

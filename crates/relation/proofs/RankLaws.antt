@@ -6,6 +6,7 @@ use mathlib.Core.Logic.{⊎_elim}
 use native.Mathlib.Omega.{arith}
 use native.Mathlib.Numerals.{add-one}
 use lib.Dec.{eqb}
+use mir.Val.{bool_byte}
 use borrow.Author.Tests.{eq-eqb, ne_eqb}
 use Rattle.ground.specs.Choice.{choose}
 use Rattle.relation.specs.Relation.{Within}
@@ -27,9 +28,14 @@ pub own-step : (n : ℕ) (f : ℕ → ℕ) → own (n + 1) f ≡ own n f + choos
 unfolding own
 own-step n f = rw (add-one n)
 
-pub chosen-most : (b : Bool) → choose {A = ℕ} b 1 0 ≤ 1
-chosen-most true = omega arith
-chosen-most false = omega arith
+-- a test as a number
+pub test-chosen : (b : Bool) → bool_byte b ≡ choose b 1 0
+test-chosen true = refl
+test-chosen false = refl
+
+pub test-most : (b : Bool) → bool_byte b ≤ 1
+test-most true = omega arith
+test-most false = omega arith
 
 -- a count of 1 and the variables below v goes on with that of v
 pub counted-on : (v : ℕ) (f : ℕ → ℕ) (count one : ℕ) → count ≡ 1 + own v f → one ≡ choose (eqb (f v) (2 * v)) 1 0 → count + one ≡ 1 +

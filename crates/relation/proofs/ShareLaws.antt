@@ -1,6 +1,6 @@
 -- What two relations share: each variable leads to the lowest variable that equals it in both.
 use Prim.Native.Nat.{ℕ, ◌+◌, ◌*◌, ◌/◌, ◌%◌, ◌≤◌, ◌<◌, max}
-use mathlib.Core.Path.{◌≡◌, refl, sym, ◌∙◌, ap, ap₂}
+use mathlib.Core.Path.{◌≡◌, refl, sym, ◌∙◌, ap, ap₂, subst}
 use mathlib.Core.Bool.{Bool, true, false}
 use mathlib.Core.List.{List}
 use mathlib.Core.Logic.{⊎_elim}
@@ -314,3 +314,7 @@ shared-done n xs ys zs k k' a b long all =
     met =
         meeting n (entry xs) (entry ys) (entry zs)
         (record { first = k.canonical; second = k'.canonical; true-first = a; true-second = b; leaders = all })
+
+-- by another name of the number of variables
+pub shared-at : {n m : ℕ} {xs ys zs : List ℕ} → n ≡ m → Shared n xs ys zs → Shared m xs ys zs
+shared-at {n} {m} {xs} {ys} {zs} e = subst (λ (i : ℕ). Shared i xs ys zs) e

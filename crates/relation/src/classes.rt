@@ -1,11 +1,10 @@
-// The array that keeps a relation, and what is read from it.
+// A relation of literals, and what is read from it.
 //
-// Whether the relation is contradictory is kept in the array too: variable 0, true, then leads to literal 1, false. So a
-// function that is lent the array alone can make the relation contradictory, and a caller sees it with one look.
-ghost use Rattle.std.specs.Prelude.{◌≡◌, ◌+◌, ◌*◌, ◌/◌, ◌<◌, ◌^◌};
+// Whether the relation is contradictory is kept in the array too: variable 0, true, then leads to literal 1, false.
+ghost use Rattle.std.specs.Prelude.{◌≡◌, ◌+◌, ◌*◌, ◌/◌, ◌≤◌, ◌<◌, ◌^◌};
 ghost use Rattle.notation.specs.clauses.Writing.{signed};
-ghost use Rattle.relation.specs.clauses.Classes.{variable_ceiling, entry, kept};
-ghost use Rattle.relation.specs.clauses.Keeping.{Fresh, Led, Lower, tied};
+ghost use Rattle.relation.specs.clauses.Classes.{variable_ceiling, Classes, entry, kept};
+ghost use Rattle.relation.specs.clauses.Keeping.{Fresh, Led, tied};
 
 use notation::ceilings::VARIABLES;
 
@@ -13,21 +12,9 @@ use notation::ceilings::VARIABLES;
 #[derive(Clone, Copy)]
 pub struct Relation {
     pub of: [u16; VARIABLES],
-}
-
-// Only l = l.
-pub fn fresh() -> Relation
-    ensures { Fresh result.of }
-{
-    let mut of = [0u16; VARIABLES];
-    let mut v: usize = 0;
-    let mut literal: u16 = 0;
-    while v < VARIABLES {
-        of[v] = literal;
-        literal += 2;
-        v += 1;
-    }
-    Relation { of }
+    // The variables in use. Each from here on stands for itself.
+    pub size: usize,
+    pub ghost classes: { Classes size of },
 }
 
 // The literal w, negated where s is odd.
@@ -38,45 +25,67 @@ pub fn turned(w: u16, s: u16) -> u16
     2 * (w / 2) + (w + s) % 2
 }
 
-// Where a literal leads.
-pub fn lead(of: &[u16; VARIABLES], l: u16) -> u16
-    requires lower { Lower of.now }
-    requires l_bound { l / 2 < variable_ceiling }
-    ensures { Led (entry of.now) l result }
+// Each variable's own literal.
+fn own_literals() -> [u16; VARIABLES]
+    ensures { Fresh result }
 {
-    let v = (l / 2) as usize;
-    turned(of[v], l)
-}
-
-// Whether all literals are equal.
-pub fn is_contradictory(of: &[u16; VARIABLES]) -> bool
-    requires { Lower of.now }
-    ensures { result ≡ kept of.now 0 1 }
-{
-    let top = of[0];
-    top == 1
-}
-
-// Whether two literals are equal.
-pub fn equal(of: &[u16; VARIABLES], l: u16, m: u16) -> bool
-    requires lower { Lower of.now }
-    requires l_bound { (l / 2 < variable_ceiling) × (m / 2 < variable_ceiling) }
-    ensures { result ≡ kept of.now l m }
-{
-    if of[0] == 1 {
-        return true;
+    let mut of = [0u16; VARIABLES];
+    for v in 0..VARIABLES {
+        of[v] = 2 * v as u16;
     }
-    lead(of, l) == lead(of, m)
+    of
 }
 
-// Whether a variable is tied to true or false.
-pub fn is_tied(of: &[u16; VARIABLES], v: usize) -> bool
-    requires lower { Lower of.now }
-    requires v_lt_variable_ceiling { v < variable_ceiling }
-    ensures { result ≡ tied (kept of.now) v }
-{
-    if of[0] == 1 {
-        return true;
+impl Relation {
+    // Only l = l. No variable is in use.
+    pub fn fresh() -> Self
+        ensures only { Fresh result.of }
+        ensures none { result.size ≡ 0 }
+    {
+        Relation {
+            of: own_literals(),
+            size: 0,
+        }
     }
-    of[v] < 2
+
+    // The same relation, with more variables in use.
+    pub fn over(mut self, size: usize) -> Self
+        requires { (self.size ≤ size) × (size ≤ variable_ceiling) }
+        ensures same { result.of ≡ self.of }
+        ensures in_use { result.size ≡ size }
+    {
+        self.size = size;
+        self
+    }
+
+    // Where a literal leads.
+    pub fn lead(&self, l: u16) -> u16
+        requires { l / 2 < variable_ceiling }
+        ensures { Led (entry self.now.of) l result }
+    {
+        turned(self.of[(l / 2) as usize], l)
+    }
+
+    // Whether all literals are equal.
+    pub fn is_contradictory(&self) -> bool
+        ensures { result ≡ kept self.now.of 0 1 }
+    {
+        self.of[0] == 1
+    }
+
+    // Whether two literals are equal.
+    pub fn equal(&self, l: u16, m: u16) -> bool
+        requires { (l / 2 < variable_ceiling) × (m / 2 < variable_ceiling) }
+        ensures { result ≡ kept self.now.of l m }
+    {
+        self.is_contradictory() || self.lead(l) == self.lead(m)
+    }
+
+    // Whether a variable is tied to true or false.
+    pub fn is_tied(&self, v: usize) -> bool
+        requires { v < variable_ceiling }
+        ensures { result ≡ tied (kept self.now.of) v }
+    {
+        self.is_contradictory() || self.of[v] < 2
+    }
 }

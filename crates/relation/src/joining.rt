@@ -3,7 +3,7 @@ ghost use Rattle.std.specs.Prelude.{◌≡◌, ◌+◌, ◌/◌, ◌<◌, ◌^�
 ghost use Rattle.relation.specs.clauses.Classes.{Classes, moved, entry};
 ghost use Rattle.relation.specs.clauses.Keeping.{Joined, Leaders};
 
-use crate::classes::{lead, turned};
+use crate::classes::{Relation, turned};
 use notation::ceilings::VARIABLES;
 
 // The literal w once hi has become lo.
@@ -17,41 +17,41 @@ fn moved_to(w: u16, lo: u16, hi: u16) -> u16
     w
 }
 
-// Joins the classes of two leaders, of which lo is the lower. No variable below that of hi leads to hi.
+// Joins the classes of two leaders, of which lo is the lower. No variable below that of hi leads to hi. It takes the array and
+// not the relation: on the way the array keeps none.
 fn merge(of: &mut [u16; VARIABLES], size: usize, lo: u16, hi: u16)
     requires classes { Classes size of.old }
     requires leaders { Leaders size (entry of.old) lo hi }
     ensures { Joined size of.old lo hi of.new }
 {
-    let mut v = (hi / 2) as usize;
-    while v < size {
-        let w = of[v];
-        of[v] = moved_to(w, lo, hi);
-        v += 1;
+    for v in (hi / 2) as usize..size {
+        of[v] = moved_to(of[v], lo, hi);
     }
 }
 
-// Makes l and m equal. Where they are already, or all are, nothing is written.
-pub fn join(of: &mut [u16; VARIABLES], size: usize, l: u16, m: u16)
-    requires classes { Classes size of.old }
-    requires l_bound { (l / 2 < size) × (m / 2 < size) }
-    ensures { Joined size of.old l m of.new }
-{
-    if of[0] == 1 {
-        return;
+impl Relation {
+    // Makes l and m equal. Where they are already, or all are, nothing is written.
+    pub fn join(&mut self, l: u16, m: u16)
+        requires { (l / 2 < self.old.size) × (m / 2 < self.old.size) }
+        ensures joined { Joined self.old.size self.old.of l m self.new.of }
+        ensures size { self.new.size ≡ self.old.size }
+    {
+        if self.is_contradictory() {
+            return;
+        }
+        let a = self.lead(l);
+        let b = self.lead(m);
+        if a == b {
+            return;
+        }
+        if a / 2 == b / 2 {
+            self.of[0] = 1;
+            return;
+        }
+        if a / 2 < b / 2 {
+            merge(&mut self.of, self.size, a, b);
+            return;
+        }
+        merge(&mut self.of, self.size, b, a);
     }
-    let a = lead(&*of, l);
-    let b = lead(&*of, m);
-    if a == b {
-        return;
-    }
-    if a / 2 == b / 2 {
-        of[0] = 1;
-        return;
-    }
-    if a / 2 < b / 2 {
-        merge(of, size, a, b);
-        return;
-    }
-    merge(of, size, b, a);
 }

@@ -9,3 +9,4 @@ pub mod Valuations
 pub mod Verdicts
 pub mod Enough
 pub mod Confirmed
+pub mod Readings

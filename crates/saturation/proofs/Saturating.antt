@@ -1,21 +1,21 @@
 -- The run of splits and rests: between the start and every stable relation above it, until it is stable itself.
 use Prim.Native.Nat.{ℕ, suc, ◌+◌, ◌*◌, ◌≤◌, ◌<◌}
-use mathlib.Core.Path.{◌≡◌, refl, sym, ◌∙◌}
-use mathlib.Core.Bool.{Bool, true, false, false≢true}
+use mathlib.Core.Path.{◌≡◌, sym, ◌∙◌}
+use mathlib.Core.Bool.{true}
 use mathlib.Core.List.{List}
 use mathlib.Core.Logic.{inl, inr, ⊎_elim}
 use native.Mathlib.Omega.{arith}
-use Rattle.ground.specs.Choice.{choose}
 use Rattle.notation.specs.Triplets.{Triplet, negation}
 use Rattle.relation.specs.Relation.{Rel, IsRelation, Within}
 use Rattle.relation.specs.Least.{Least, Holds}
 use Rattle.relation.specs.clauses.Growing.{Growth}
 use Rattle.relation.specs.clauses.Classes.{Classes, entry, kept, rank}
-use Rattle.relation.specs.clauses.Keeping.{common, Shared, Joined, tied}
+use Rattle.relation.specs.clauses.Keeping.{Shared, Joined, tied}
 use Rattle.ground.proofs.Cases.{split-eq}
 use Rattle.relation.proofs.RelationLaws.{within-trans, least-below, growth-none, growth-more, growth-least}
 use Rattle.relation.proofs.ClassLaws.{is-relation, tied-cases}
 use Rattle.relation.proofs.RankLaws.{rank-settles}
+use Rattle.relation.proofs.ShareLaws.{common-true, common-both}
 use Rattle.steps.specs.Rest.{NoStepEnlarges}
 use Rattle.steps.specs.clauses.Resting.{in_use, triplets_at, Rested}
 use Rattle.steps.proofs.Resting.{rest-same}
@@ -25,19 +25,6 @@ use Rattle.saturation.proofs.Taking.{above-taking, taking-above, taking-holds}
 use Rattle.saturation.proofs.Depth.{stable-rest, stable-when}
 use Rattle.saturation.proofs.Fixed.{negation-even}
 use Rattle.saturation.proofs.Splits.{saturated-more, split_below, split-held, taking-more}
-
--- ---- what two relations share
-common-true : (R S : Rel) (l m : ℕ) → common R S l m ≡ true → (R l m ≡ true) × (S l m ≡ true)
-unfolding common
-common-true R S l m e = both (R l m) (S l m) e
-  where
-    both : (a b : Bool) → choose a b false ≡ true → (a ≡ true) × (b ≡ true)
-    both true b h = (refl, h)
-    both false b h = absurd (false≢true h)
-
-true-common : (R S : Rel) (l m : ℕ) → R l m ≡ true → S l m ≡ true → common R S l m ≡ true
-unfolding common
-true-common R S l m p q = rw (p, q)
 
 module _ (D : ℕ → Type 0) (ts : List Triplet) where
   -- the saturation of the least relation above R that holds l is that of R with l taken as true
@@ -141,18 +128,18 @@ module _ (numbers : List ℕ) (c n k : ℕ) where
         record {
           above = λ l m e.
               both.both l m
-              ∙ true-common (kept ons) (kept offs) l m
+              ∙ common-true (kept ons) (kept offs) l m
               (taking-above (kept xs) (kept ons) (2 * f) high-side.above l m e)
               (taking-above (kept xs) (kept offs) (2 * f + 1) low-side.above l m e);
           below = λ A a w h l m e.
-              let p : (kept ons l m ≡ true) × (kept offs l m ≡ true) = common-true (kept ons) (kept offs) l m (sym (both.both l m) ∙ e) in
+              let p : (kept ons l m ≡ true) × (kept offs l m ≡ true) = common-both (kept ons) (kept offs) l m (sym (both.both l m) ∙ e) in
               split_below (Flags n) ts k f (kept xs) (kept ons) (kept offs) high-side low-side flag A a w h l m p.0 p.1;
         }
 
     shared-held : Within (kept zs) (kept xs) → Tried numbers c n k xs f
     shared-held w =
         inr (split-held (Flags n) ts k f (kept xs) (kept ons) (kept offs) high-side low-side
-        (λ l m p q. w l m (both.both l m ∙ true-common (kept ons) (kept offs) l m p q)))
+        (λ l m p q. w l m (both.both l m ∙ common-true (kept ons) (kept offs) l m p q)))
 
     -- where the rank did not fall, what both share is nothing new
     pub divided-idle : rank (in_use c) (entry xs) ≤ rank (in_use c) (entry zs) → Divided numbers c n k f xs zs

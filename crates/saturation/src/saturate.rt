@@ -1,80 +1,86 @@
 // Saturation at a depth. A split saturates both sides one less deep and keeps what they share.
+ghost use Rattle.std.specs.Prelude.{◌≡◌, ◌≤◌};
+ghost use Rattle.notation.specs.Ceilings.{flag_ceiling};
+ghost use Rattle.truth.specs.clauses.Computed.{Triplets};
+ghost use Rattle.truth.specs.clauses.OneProof.{triplets-prop};
 ghost use Rattle.relation.specs.clauses.Classes.{kept};
 ghost use Rattle.steps.specs.Rest.{NoStepEnlarges};
-ghost use Rattle.steps.specs.clauses.Resting.{triplets_at};
+ghost use Rattle.steps.specs.clauses.Resting.{in_use, triplets_at};
 ghost use Rattle.saturation.specs.Saturation.{Flags};
-ghost use Rattle.saturation.specs.clauses.Saturating.{Ready, SaturatedTo, Divided, Swept};
+ghost use Rattle.saturation.specs.clauses.Saturating.{SaturatedTo, Divided, Swept};
 
-use notation::ceilings::VARIABLES;
-use relation::classes::is_tied;
-use relation::joining::join;
-use relation::ranking::size_of;
-use relation::sharing::share;
-use steps::rest::{FIRST, rest};
+use relation::classes::Relation;
+use steps::rest::rest;
 
-// Splits on a flag that is not tied, false side first. The true side is the relation itself: what both sides share is above
-// what it was, so that one copy is enough.
-#[cycle(saturate_split_sweep)]
-fn split(
-    of: &mut [u16; VARIABLES],
-    triplets: &[u16],
-    count: usize,
-    flags: usize,
-    flag: usize,
-    below: u64,
-)
-    requires ready { Ready triplets.now count flags of.old }
-    requires no_step_enlarges { NoStepEnlarges (triplets_at triplets.now count) (kept of.old) }
-    requires flags { Flags flags flag }
-    ensures { Divided triplets.now count flags below flag of.old of.new }
-{
-    if is_tied(&*of, flag) {
-        return;
-    }
-    let size = FIRST + count;
-    let on = 2 * flag as u16;
-    let before = size_of(&*of, size);
-    let mut off = *of;
-    join(&mut off, size, on + 1, 0);
-    saturate(&mut off, triplets, count, flags, below);
-    join(of, size, on, 0);
-    saturate(of, triplets, count, flags, below);
-    share(of, &off, size);
-    if before <= size_of(&*of, size) {
-        return;
-    }
-    rest(of, triplets, count);
+// What a relation is saturated by: so many triplets, three numbers each, and splits on so many flags.
+#[derive(Clone, Copy)]
+pub struct Saturator<'a> {
+    pub triplets: &'a [u16],
+    pub count: usize,
+    pub flags: usize,
+    // Over any number of flags and with any root, that is, over as many as there can be, with the root true.
+    pub ghost readable: { Triplets flag_ceiling triplets.now count 0 } by { triplets-prop flag_ceiling triplets.now count 0 },
+    pub ghost few: { flags ≤ flag_ceiling },
 }
 
-// A split on each flag in turn.
-#[cycle(saturate_split_sweep)]
-fn sweep(of: &mut [u16; VARIABLES], triplets: &[u16], count: usize, flags: usize, below: u64)
-    requires ready { Ready triplets.now count flags of.old }
-    requires no_step_enlarges { NoStepEnlarges (triplets_at triplets.now count) (kept of.old) }
-    ensures { Swept triplets.now count flags below of.old of.new }
-{
-    let mut flag: usize = 1;
-    while flag <= flags {
-        split(of, triplets, count, flags, flag, below);
-        flag += 1;
+impl<'a> Saturator<'a> {
+    // Splits on a flag that is not tied, false side first. The true side is the relation itself: what both sides share is above
+    // what it was, so that one copy is enough.
+    #[cycle(saturate_split_sweep)]
+    fn split(&self, relation: &mut Relation, flag: usize, below: u64)
+        requires size { relation.old.size ≡ in_use self.now.count }
+        requires no_step_enlarges { NoStepEnlarges (triplets_at self.now.triplets.now self.now.count) (kept relation.old.of) }
+        requires flags { Flags self.now.flags flag }
+        ensures divided { Divided self.now.triplets.now self.now.count self.now.flags below flag relation.old.of relation.new.of }
+        ensures size { relation.new.size ≡ relation.old.size }
+    {
+        if relation.is_tied(flag) {
+            return;
+        }
+        let on = 2 * flag as u16;
+        let before = relation.rank();
+        let mut off = *relation;
+        off.join(on + 1, 0);
+        self.saturate(&mut off, below);
+        relation.join(on, 0);
+        self.saturate(relation, below);
+        relation.share(&off);
+        if before <= relation.rank() {
+            return;
+        }
+        rest(relation, self.triplets, self.count);
     }
-}
 
-// Passes over the flags until one changes nothing. Each that changes something makes the rank fall.
-#[cycle(saturate_split_sweep)]
-pub fn saturate(of: &mut [u16; VARIABLES], triplets: &[u16], count: usize, flags: usize, depth: u64)
-    requires { Ready triplets.now count flags of.old }
-    ensures { SaturatedTo triplets.now count flags depth of.old of.new }
-{
-    rest(of, triplets, count);
-    if depth == 0 {
-        return;
+    // A split on each flag in turn.
+    #[cycle(saturate_split_sweep)]
+    fn sweep(&self, relation: &mut Relation, below: u64)
+        requires size { relation.old.size ≡ in_use self.now.count }
+        requires no_step_enlarges { NoStepEnlarges (triplets_at self.now.triplets.now self.now.count) (kept relation.old.of) }
+        ensures swept { Swept self.now.triplets.now self.now.count self.now.flags below relation.old.of relation.new.of }
+        ensures size { relation.new.size ≡ relation.old.size }
+    {
+        for flag in 1..=self.flags {
+            self.split(relation, flag, below);
+        }
     }
-    let mut left = size_of(&*of, FIRST + count);
-    let mut was = left + 1;
-    while left < was {
-        was = left;
-        sweep(of, triplets, count, flags, depth - 1);
-        left = size_of(&*of, FIRST + count);
+
+    // Passes over the flags until one changes nothing. Each that changes something makes the rank fall.
+    #[cycle(saturate_split_sweep)]
+    pub fn saturate(&self, relation: &mut Relation, depth: u64)
+        requires { relation.old.size ≡ in_use self.now.count }
+        ensures saturated { SaturatedTo self.now.triplets.now self.now.count self.now.flags depth relation.old.of relation.new.of }
+        ensures size { relation.new.size ≡ relation.old.size }
+    {
+        rest(relation, self.triplets, self.count);
+        if depth == 0 {
+            return;
+        }
+        let mut left = relation.rank();
+        let mut was = left + 1;
+        while left < was {
+            was = left;
+            self.sweep(relation, depth - 1);
+            left = relation.rank();
+        }
     }
 }

@@ -1,6 +1,7 @@
 -- The pattern of x, y and z in a consistent array, by the literals that they lead to.
 use Prim.Native.Nat.{ℕ, zero, suc, ◌+◌, ◌*◌, ◌/◌, ◌%◌, ◌≤◌}
 use mathlib.Core.Path.{◌≡◌, refl, sym, ◌∙◌, ap, ap₂}
+use mathlib.Core.Bool.{true, not, false≢true}
 use mathlib.Core.List.{List, [], ◌∷◌}
 use mathlib.Core.Logic.{⊎_elim}
 use native.Mathlib.Omega.{arith}
@@ -147,6 +148,10 @@ module _ (f : ℕ → ℕ) (top : f 0 ≡ 0) (x y z : ℕ) where
   pub pattern-leads : (p : ℕ) → Patterned (lead f x) (lead f y) (lead f z) p → p ≡ pattern_of (relation f) x y z
   unfolding pattern
   pattern-leads p h = h.names ∙ sym (ap₂ ◌+◌ (ap₂ (λ (i j : ℕ). 35 * i + 7 * j) x-at y-at) z-at)
+
+-- a test that tells two numbers apart
+pub told_apart : (m n : ℕ) → not (eqb m n) ≡ true → m ≡ n → ⊥
+told_apart m n e p = false≢true (rw (eq-eqb m n p) at e)
 
 -- where no two of true, x, y and z lead to one variable, each has its own name
 pub own-names : (a b c : ℕ) → (a / 2 ≡ 0 → ⊥) → (b / 2 ≡ 0 → ⊥) → (c / 2 ≡ 0 → ⊥) → (b / 2 ≡ a / 2 → ⊥)

@@ -8,7 +8,6 @@ use lib.Dec.{eqb}
 use lib.ListN.{length, get_or}
 use borrow.Author.Tests.{eqb-true}
 use Rattle.steps.specs.Table.{entry}
-use Rattle.steps.specs.clauses.Resting.{Entries}
 use Rattle.steps.proofs.Entries.{passes, at}
 
 -- the number at place k is the entry of its kind and pattern
@@ -22,7 +21,3 @@ table es right-everywhere long kind p k h =
     eqb-true (get_or es (105 * kind + p) 0) (entry ((105 * kind + p) / 105) ((105 * kind + p) % 105))
     (at right es right-everywhere (105 * kind + p) (omega arith))
     ∙ ap₂ entry (omega arith) (omega arith)
-
--- such a list is the table that a step is lent
-pub entries : (es : List ℕ) → passes right 0 es ≡ true → length es ≡ 210 → Entries es
-entries es right-everywhere long = record { long = long; right = table es right-everywhere long }

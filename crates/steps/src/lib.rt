@@ -3,13 +3,12 @@
 
 pub mod rest;
 pub mod step;
-pub mod table;
 
 ghost use Rattle.std.specs.Prelude.{◌≡◌, ◌≤◌, ◌<◌};
 ghost use Rattle.steps.specs.Table.{entry};
 
 // 105 numbers for kind 0, then 105 for kind 1: the pattern after a step at each pattern, or 255 for contradiction.
-const AFTER: [u8; 210] = [
+static AFTER: [u8; 210] = [
     // kind 0, x false, y false
     255, 255, 255, 255, 255, 255, 255,
     // kind 0, x false, y true

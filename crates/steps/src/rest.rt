@@ -1,49 +1,47 @@
 // Rest: steps on the triplets until none enlarges the relation.
-ghost use Rattle.std.specs.Prelude.{◌+◌, ◌*◌, ◌<◌};
-ghost use Rattle.relation.specs.clauses.Classes.{Classes};
-ghost use Rattle.steps.specs.clauses.Resting.{Entries, in_use, Passed, Rested, Readable};
+ghost use Rattle.std.specs.Prelude.{◌≡◌, ◌+◌, ◌*◌, ◌<◌};
+ghost use Rattle.steps.specs.clauses.Resting.{in_use, Passed, Rested, Readable};
 
-use crate::step::step;
-use crate::table::{ENTRIES, table};
-use notation::ceilings::{FLAGS, VARIABLES};
-use relation::ranking::size_of;
+use crate::step::Triplet;
+use notation::ceilings::FLAGS;
+use relation::classes::Relation;
 
 // The variable of the first triplet.
 pub const FIRST: usize = 1 + FLAGS;
 
 // A step on each triplet in turn. A contradictory relation holds all: it ends the pass.
-fn pass(of: &mut [u16; VARIABLES], table: &[u8; ENTRIES], triplets: &[u16], count: usize)
-    requires entries { Entries table.now }
+fn pass(relation: &mut Relation, triplets: &[u16], count: usize)
     requires readable { Readable triplets.now count }
-    requires classes { Classes (in_use count) of.old }
-    ensures { Passed triplets.now count of.old of.new }
+    requires size { relation.old.size ≡ in_use count }
+    ensures passed { Passed triplets.now count relation.old.of relation.new.of }
+    ensures size { relation.new.size ≡ relation.old.size }
 {
-    let mut j: usize = 0;
-    while j < count {
-        if of[0] == 1 {
+    for j in 0..count {
+        if relation.is_contradictory() {
             return;
         }
-        let kind = triplets[3 * j] as usize;
-        let y = triplets[3 * j + 1];
-        let z = triplets[3 * j + 2];
-        let x = 2 * (FIRST + j) as u16;
-        step(of, table, FIRST + count, kind, x, y, z);
-        j += 1;
+        let triplet = Triplet {
+            kind: triplets[3 * j] as usize,
+            x: 2 * (FIRST + j) as u16,
+            y: triplets[3 * j + 1],
+            z: triplets[3 * j + 2],
+        };
+        triplet.step(relation);
     }
 }
 
 // Passes until one changes nothing. Each that changes something makes the rank fall.
-pub fn rest(of: &mut [u16; VARIABLES], triplets: &[u16], count: usize)
+pub fn rest(relation: &mut Relation, triplets: &[u16], count: usize)
     requires readable { Readable triplets.now count }
-    requires classes { Classes (in_use count) of.old }
-    ensures { Rested triplets.now count of.old of.new }
+    requires size { relation.old.size ≡ in_use count }
+    ensures rested { Rested triplets.now count relation.old.of relation.new.of }
+    ensures size { relation.new.size ≡ relation.old.size }
 {
-    let entries = table();
-    let mut left = size_of(&*of, FIRST + count);
+    let mut left = relation.rank();
     let mut was = left + 1;
     while left < was {
         was = left;
-        pass(of, &entries, triplets, count);
-        left = size_of(&*of, FIRST + count);
+        pass(relation, triplets, count);
+        left = relation.rank();
     }
 }

@@ -1,15 +1,22 @@
 // One step on a triplet, in place: where it adds nothing, nothing is written.
 ghost use Rattle.std.specs.Prelude.{◌≡◌, true, ◌+◌, ◌*◌, ◌/◌, ◌%◌, ◌<◌, ◌≤◌, ◌^◌, get_or};
-ghost use Rattle.relation.specs.clauses.Classes.{Classes};
 ghost use Rattle.steps.specs.Step.{own-z, literal_at};
 ghost use Rattle.steps.specs.Table.{z_names};
 ghost use Rattle.steps.specs.clauses.Leading.{x_place, y_place, z_place, Patterned};
-ghost use Rattle.steps.specs.clauses.Resting.{Entries, Usable, Named, Stepped};
+ghost use Rattle.steps.specs.clauses.Resting.{Usable, Named, Stepped};
 
-use crate::table::{ENTRIES, entry_of};
-use notation::ceilings::VARIABLES;
-use relation::classes::{lead, turned};
-use relation::joining::join;
+use crate::after;
+use relation::classes::{Relation, turned};
+
+// A triplet x = (y implies z), of kind 0, or x = (y same as z), of kind 1, by its literals. The kind stays the number that stands
+// in the list of triplets and tells the half of the table.
+#[derive(Clone, Copy)]
+pub struct Triplet {
+    pub kind: usize,
+    pub x: u16,
+    pub y: u16,
+    pub z: u16,
+}
 
 // The entry for contradiction.
 const CONTRADICTORY: usize = 255;
@@ -59,25 +66,10 @@ fn z_place(a: u16, b: u16, c: u16) -> u16
 fn apart(a: u16, b: u16, c: u16) -> bool
     ensures { result ≡ true → Patterned a b c 104 }
 {
-    if a / 2 == 0 {
+    if a / 2 == 0 || b / 2 == 0 || c / 2 == 0 {
         return false;
     }
-    if b / 2 == 0 {
-        return false;
-    }
-    if c / 2 == 0 {
-        return false;
-    }
-    if b / 2 == a / 2 {
-        return false;
-    }
-    if c / 2 == a / 2 {
-        return false;
-    }
-    if c / 2 == b / 2 {
-        return false;
-    }
-    true
+    b / 2 != a / 2 && c / 2 != a / 2 && c / 2 != b / 2
 }
 
 // The pattern of x, y and z, which lead to a, b and c.
@@ -91,77 +83,60 @@ fn pattern_of(a: u16, b: u16, c: u16) -> usize
     (35 * x + 7 * y + z) as usize
 }
 
-// The literal that a place in the list of names stands for. The names of x and y are the first of those of z.
-fn literal_at(place: usize, x: u16, y: u16, z: u16) -> u16
-    requires place_bound { place ≤ 6 }
-    requires x_bound { (x + 1 < 2 ^ 16) × (y + 1 < 2 ^ 16) }
-    ensures { result ≡ literal_at x y z (get_or z_names place own-z) }
-{
-    if place == 0 {
-        return 1;
+impl Triplet {
+    // The literal that a place in the list of names stands for. The names of x and y are the first of those of z.
+    fn literal_at(self, place: usize) -> u16
+        requires place_bound { place ≤ 6 }
+        requires x_bound { (self.x + 1 < 2 ^ 16) × (self.y + 1 < 2 ^ 16) }
+        ensures { result ≡ literal_at self.x self.y self.z (get_or z_names place own-z) }
+    {
+        match place {
+            0 => 1,
+            1 => 0,
+            2 => self.x,
+            3 => turned(self.x, 1),
+            4 => self.y,
+            5 => turned(self.y, 1),
+            _ => self.z,
+        }
     }
-    if place == 1 {
-        return 0;
-    }
-    if place == 2 {
-        return x;
-    }
-    if place == 3 {
-        return turned(x, 1);
-    }
-    if place == 4 {
-        return y;
-    }
-    if place == 5 {
-        return turned(y, 1);
-    }
-    z
-}
 
-// Joins x, y and z with what the pattern names them.
-fn hold(of: &mut [u16; VARIABLES], size: usize, pattern: usize, x: u16, y: u16, z: u16)
-    requires classes { Classes size of.old }
-    requires pattern_bound { pattern < 105 }
-    requires x_bound { (x / 2 < size) × (y / 2 < size) × (z / 2 < size) }
-    ensures { Named size pattern x y z of.old of.new }
-{
-    let p = literal_at(pattern / 35, x, y, z);
-    join(of, size, x, p);
-    let q = literal_at(pattern / 7 % 5, x, y, z);
-    join(of, size, y, q);
-    let r = literal_at(pattern % 7, x, y, z);
-    join(of, size, z, r);
-}
+    // Joins x, y and z with what the pattern names them.
+    fn hold(self, relation: &mut Relation, pattern: usize)
+        requires pattern_bound { pattern < 105 }
+        requires x_bound { (self.x / 2 < relation.old.size) × (self.y / 2 < relation.old.size) × (self.z / 2 < relation.old.size) }
+        ensures named { Named relation.old.size pattern self.x self.y self.z relation.old.of relation.new.of }
+        ensures size { relation.new.size ≡ relation.old.size }
+    {
+        let p = self.literal_at(pattern / 35);
+        relation.join(self.x, p);
+        let q = self.literal_at(pattern / 7 % 5);
+        relation.join(self.y, q);
+        let r = self.literal_at(pattern % 7);
+        relation.join(self.z, r);
+    }
 
-// A step on a triplet x = (y implies z) or x = (y same as z).
-pub fn step(
-    of: &mut [u16; VARIABLES],
-    table: &[u8; ENTRIES],
-    size: usize,
-    kind: usize,
-    x: u16,
-    y: u16,
-    z: u16,
-)
-    requires entries { Entries table.now }
-    requires classes { Classes size of.old }
-    requires usable { Usable size kind x y z }
-    ensures { Stepped size kind x y z of.old of.new }
-{
-    let a = lead(&*of, x);
-    let b = lead(&*of, y);
-    let c = lead(&*of, z);
-    if apart(a, b, c) {
-        return;
+    // A step on it.
+    pub fn step(self, relation: &mut Relation)
+        requires { Usable relation.old.size self.kind self.x self.y self.z }
+        ensures stepped { Stepped relation.old.size self.kind self.x self.y self.z relation.old.of relation.new.of }
+        ensures size { relation.new.size ≡ relation.old.size }
+    {
+        let a = relation.lead(self.x);
+        let b = relation.lead(self.y);
+        let c = relation.lead(self.z);
+        if apart(a, b, c) {
+            return;
+        }
+        let before = pattern_of(a, b, c);
+        let next = after(self.kind, before) as usize;
+        if next == before {
+            return;
+        }
+        if next == CONTRADICTORY {
+            relation.join(0, 1);
+            return;
+        }
+        self.hold(relation, next);
     }
-    let before = pattern_of(a, b, c);
-    let next = entry_of(table, kind, before) as usize;
-    if next == before {
-        return;
-    }
-    if next == CONTRADICTORY {
-        join(of, size, 0, 1);
-        return;
-    }
-    hold(of, size, next, x, y, z);
 }

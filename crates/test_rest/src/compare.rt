@@ -1,20 +1,27 @@
 // One list in four orders: rest on each, and the naive reference once, on the order in which the list was made.
-ghost use Rattle.std.specs.Prelude.{◌≡◌, true, ◌+◌, ◌*◌, ◌/◌, ◌<◌, ◌≤◌};
-ghost use Rattle.relation.specs.clauses.Keeping.{Lower};
+ghost use Rattle.std.specs.Prelude.{◌≡◌, true, ◌+◌, ◌*◌, ◌/◌, ◌<◌, ◌≤◌, IfOk};
 ghost use Rattle.steps.specs.clauses.Resting.{Readable};
 ghost use Rattle.test_rest.specs.clauses.Known.{Known};
 
 use crate::draw::draw;
-use crate::lists::{NAMES, NUMBERS, made, reordered};
-use crate::naive::{PAIRS, add, alone, holds, settle};
+use crate::lists::{LITERALS, List};
+use crate::naive::{PAIRS, Pairs};
 use crate::report::report;
-use notation::ceilings::VARIABLES;
-use relation::classes::{Relation, equal, fresh};
-use relation::joining::join;
+use relation::classes::Relation;
+use std::io;
 use steps::rest::{FIRST, rest};
 
 // The orders in which a list is tried.
 pub const ORDERS: usize = 4;
+
+// The two equalities a = b and c = d that rest starts from, between literals of the list as it was made.
+#[derive(Clone, Copy)]
+pub struct Start {
+    pub a: usize,
+    pub b: usize,
+    pub c: usize,
+    pub d: usize,
+}
 
 // The variable of a literal.
 fn variable(l: u16) -> usize
@@ -28,171 +35,135 @@ fn is_known(kind: u16, y: u16, z: u16, j: usize) -> bool
     requires { j < 8 }
     ensures { result ≡ true → Known j kind y z }
 {
-    if kind > 1 {
-        return false;
-    }
-    if variable(y) >= FIRST + j {
-        return false;
-    }
-    if variable(z) >= FIRST + j {
-        return false;
-    }
-    true
+    kind <= 1 && variable(y) < FIRST + j && variable(z) < FIRST + j
 }
 
 // Whether rest can take the list.
-fn is_readable(list: &[u16], count: usize) -> bool
-    ensures { result ≡ true → Readable list.now count }
+fn is_readable(list: &List) -> bool
+    ensures { result ≡ true → Readable list.now.numbers list.now.count }
 {
-    if count > 8 {
-        return false;
-    }
-    if list.len() < NUMBERS {
-        return false;
-    }
-    let mut j: usize = 0;
-    while j < count {
-        if !is_known(list[3 * j], list[3 * j + 1], list[3 * j + 2], j) {
+    for j in 0..list.count {
+        if !is_known(
+            list.numbers[3 * j],
+            list.numbers[3 * j + 1],
+            list.numbers[3 * j + 2],
+            j,
+        ) {
             return false;
         }
-        j += 1;
     }
     true
 }
 
 // What a literal of the list as it was made is called now; true where that is no variable in use.
-fn called(list: &[u16], literal: usize, size: usize) -> u16
-    requires { 0 < size }
-    ensures { result / 2 < size }
+fn called(list: &List, literal: usize) -> u16
+    ensures { result / 2 < 25 + list.now.count }
 {
-    let place = NAMES + literal % 32;
-    if place >= list.len() {
-        return 0;
+    let l = list.names[literal % LITERALS];
+    if variable(l) < FIRST + list.count {
+        l
+    } else {
+        0
     }
-    let l = list[place];
-    if variable(l) >= size {
-        return 0;
-    }
-    l
 }
 
-// Two equalities that the seed decides, and then rest.
-fn rested(list: &[u16], count: usize, seed: usize) -> Relation
-    requires { Readable list.now count }
-    ensures { Lower result.of }
-{
-    let size = FIRST + count;
-    let literals = 10 + 2 * count;
-    let a = called(list, draw(seed, 101, literals), size);
-    let b = called(list, draw(seed, 102, literals), size);
-    let c = called(list, draw(seed, 103, literals), size);
-    let d = called(list, draw(seed, 104, literals), size);
-    let mut r = fresh();
-    join(&mut r.of, size, a, b);
-    join(&mut r.of, size, c, d);
-    rest(&mut r.of, list, count);
-    r
-}
+impl Start {
+    // The seed decides it.
+    fn drawn(list: &List, seed: usize) -> Start {
+        let literals = list.literals();
+        Start {
+            a: draw(seed, 101, literals),
+            b: draw(seed, 102, literals),
+            c: draw(seed, 103, literals),
+            d: draw(seed, 104, literals),
+        }
+    }
 
-// The same two equalities in the naive reference, and rest there; answers whether it came to rest.
-fn rest_naively(pairs: &mut [u8; PAIRS], list: &[u16; NUMBERS], count: usize, seed: usize) -> bool
-    requires { count ≤ 8 }
-{
-    let literals = 10 + 2 * count;
-    add(pairs, draw(seed, 101, literals), draw(seed, 102, literals));
-    add(pairs, draw(seed, 103, literals), draw(seed, 104, literals));
-    settle(pairs, list, count, seed)
+    // Rest from there.
+    fn rested(&self, list: &List) -> Relation
+        requires { Readable list.now.numbers list.now.count }
+    {
+        let mut relation = Relation::fresh().over(FIRST + list.count);
+        relation.join(called(list, self.a), called(list, self.b));
+        relation.join(called(list, self.c), called(list, self.d));
+        rest(&mut relation, &list.numbers, list.count);
+        relation
+    }
+
+    // The same in the naive reference; none where it did not come to rest.
+    fn rested_naively(&self, list: &List, seed: usize) -> Option<Pairs> {
+        let mut pairs = Pairs::alone();
+        pairs.add(self.a, self.b);
+        pairs.add(self.c, self.d);
+        if pairs.settle(list, seed) {
+            Some(pairs)
+        } else {
+            None
+        }
+    }
 }
 
 // Whether the two differ at a pair of literals of the list as it was made.
-fn differs(
-    of: &[u16; VARIABLES],
-    pairs: &[u8; PAIRS],
-    list: &[u16],
-    count: usize,
-    pair: usize,
-) -> bool
-    requires lower { Lower of.now }
-    requires count_bound { count ≤ 8 }
-{
-    let a = pair / 32;
-    let b = pair % 32;
-    if a >= 10 + 2 * count {
-        return false;
-    }
-    if b >= 10 + 2 * count {
-        return false;
-    }
-    let size = FIRST + count;
-    let here = equal(of, called(list, a, size), called(list, b, size));
-    here != holds(pairs, a, b)
+fn differs(relation: &Relation, pairs: &Pairs, list: &List, pair: usize) -> bool {
+    let (a, b) = (pair / 32, pair % 32);
+    a < list.literals()
+        && b < list.literals()
+        && relation.equal(called(list, a), called(list, b)) != pairs.holds(a, b)
 }
 
-// The first pair at which the two differ, or the number of pairs.
-fn first_difference(of: &[u16; VARIABLES], pairs: &[u8; PAIRS], list: &[u16], count: usize) -> usize
-    requires lower { Lower of.now }
-    requires count_bound { count ≤ 8 }
+// The first pair at which the two differ on the list in its present order.
+fn first_difference(start: &Start, pairs: &Pairs, list: &List) -> Option<usize>
+    requires { Readable list.now.numbers list.now.count }
 {
-    let mut pair: usize = 0;
-    while pair < PAIRS {
-        if differs(of, pairs, list, count, pair) {
-            return pair;
-        }
-        pair += 1;
-    }
-    PAIRS
+    let relation = start.rested(list);
+    (0..PAIRS).find(|pair| differs(&relation, pairs, list, *pair))
 }
 
-// 1 where rest and the naive reference differ on the list in its present order, and 0 where not. Where none was told before, it tells.
-fn compared(
-    pairs: &[u8; PAIRS],
-    list: &[u16],
-    count: usize,
+// Whether rest and the naive reference differ on the list in its present order. Where none was told before, it tells.
+fn is_wrong(
+    rt: &impl Print,
+    start: &Start,
+    pairs: &Pairs,
+    list: &List,
     seed: usize,
     order: usize,
     told: bool,
-) -> usize
-    requires { count ≤ 8 }
-    ensures { result ≤ 1 }
-{
-    if !is_readable(list, count) {
-        return 1;
+) -> io::Result<bool> {
+    if !is_readable(list) {
+        return Ok(true);
     }
-    let r = rested(list, count, seed);
-    let pair = first_difference(&r.of, pairs, list, count);
-    if pair >= PAIRS {
-        return 0;
+    let Some(pair) = first_difference(start, pairs, list) else {
+        return Ok(false);
+    };
+    if !told {
+        report(
+            rt,
+            list,
+            start,
+            seed,
+            order,
+            pair,
+            pairs.holds(pair / 32, pair % 32),
+        )?;
     }
-    if told {
-        return 1;
-    }
-    report(
-        list,
-        count,
-        seed,
-        order,
-        pair,
-        holds(pairs, pair / 32, pair % 32),
-    );
-    1
+    Ok(true)
 }
 
 // How many orders of the list of this seed have a pair on which the two differ.
-pub fn disagreements(seed: usize, told: bool) -> usize
-    ensures { result ≤ 4 }
+pub fn disagreements(rt: &impl Print, seed: usize, told: bool) -> io::Result<usize>
+    ensures { IfOk result (λ wrong. wrong ≤ 4) }
 {
-    let count = 1 + seed % 8;
-    let mut list = made(seed);
-    let mut pairs = alone();
-    if !rest_naively(&mut pairs, &list, count, seed) {
-        return ORDERS;
+    let mut list = List::made(seed);
+    let start = Start::drawn(&list, seed);
+    let Some(pairs) = start.rested_naively(&list, seed) else {
+        return Ok(ORDERS);
+    };
+    let mut wrong = 0;
+    for order in 0..ORDERS {
+        if is_wrong(rt, &start, &pairs, &list, seed, order, told || wrong > 0)? {
+            wrong += 1;
+        }
+        list.reorder(seed % 100000 * 4 + order);
     }
-    let mut wrong: usize = 0;
-    let mut order: usize = 0;
-    while order < ORDERS {
-        wrong += compared(&pairs, &list, count, seed, order, told | (wrong > 0));
-        list = reordered(list, count, seed % 100000 * 4 + order);
-        order += 1;
-    }
-    wrong
+    Ok(wrong)
 }

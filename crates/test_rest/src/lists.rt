@@ -1,99 +1,111 @@
 // Random lists of at most eight triplets over four flags, and the same list in other orders.
 //
-// A triplet's variable is its place, so another order renames variables. The array has the triplets' 24 numbers, and after them,
-// for each literal of the list as it was made, what it is called now.
+// A triplet's variable is its place, so another order renames variables. Beside the triplets stands, for each literal of the list
+// as it was made, what it is called now.
+ghost use Rattle.std.specs.Prelude.{◌≡◌, ◌+◌, ◌*◌, ◌≤◌, ◌<◌};
+
 use crate::draw::draw;
+use std::array;
 use steps::rest::FIRST;
 
-pub const NUMBERS: usize = 56;
+pub const TRIPLETS: usize = 8;
 
-// Where the names of the literals start.
-pub const NAMES: usize = 24;
+pub const NUMBERS: usize = 3 * TRIPLETS;
+
+// Literals of a list as it was made, and some that it does not have.
+pub const LITERALS: usize = 32;
+
+#[derive(Clone, Copy)]
+pub struct List {
+    // Kind, y and z of each triplet.
+    pub numbers: [u16; NUMBERS],
+    pub names: [u16; LITERALS],
+    pub count: usize,
+    pub ghost few: { count ≤ 8 },
+}
 
 // The literal of a list, from one that is counted without gaps: true, flags 1 to 4, then the triplets.
-fn named(literal: usize) -> u16 {
-    let l = literal % 32;
-    if l < 10 {
-        return l as u16;
+fn named(literal: usize) -> u16
+    requires { literal < 32 }
+{
+    if literal < 10 {
+        literal as u16
+    } else {
+        (literal + 2 * (FIRST - 5)) as u16
     }
-    (l + 2 * (FIRST - 5)) as u16
 }
 
-// The number at a place: a kind, an operand that is known before its triplet, or the name of a literal.
-fn number_at(seed: usize, place: usize) -> u16 {
-    if place >= NAMES {
-        return named(place - NAMES);
-    }
+// The number at a place: a kind, or an operand that is known before its triplet.
+fn number_at(seed: usize, place: usize) -> u16
+    requires { place < 24 }
+{
     if place % 3 == 0 {
-        return draw(seed, place, 2) as u16;
+        draw(seed, place, 2) as u16
+    } else {
+        named(draw(seed, place, 2 * (5 + place / 3)))
     }
-    named(draw(seed, place, 2 * (5 + place / 3)))
-}
-
-pub fn made(seed: usize) -> [u16; NUMBERS] {
-    let mut list = [0u16; NUMBERS];
-    let mut i: usize = 0;
-    while i < NUMBERS {
-        list[i] = number_at(seed, i);
-        i += 1;
-    }
-    list
 }
 
 // The literal l once the variables v and v + 1 have changed places.
-fn exchanged(l: u16, v: u16) -> u16 {
+fn exchanged(l: u16, v: u16) -> u16
+    requires { v < 1000 }
+{
     if l / 2 == v {
-        return l % 1000 + 2;
+        l + 2
+    } else if l / 2 == v + 1 {
+        l - 2
+    } else {
+        l
     }
-    if l / 2 == v % 1000 + 1 {
-        if l >= 2 {
-            return l - 2;
+}
+
+fn rename(literals: &mut [u16], v: u16)
+    requires { v < 1000 }
+{
+    for l in literals.iter_mut() {
+        *l = exchanged(*l, v);
+    }
+}
+
+impl List {
+    pub fn made(seed: usize) -> List {
+        List {
+            numbers: array::from_fn(|place| number_at(seed, place)),
+            names: array::from_fn(named),
+            count: 1 + seed % TRIPLETS,
         }
     }
-    l
-}
 
-fn rename(list: &mut [u16; NUMBERS], v: u16) {
-    let mut i: usize = 0;
-    while i < NUMBERS {
-        let l = list[i];
-        list[i] = exchanged(l, v);
-        i += 1;
+    // How many literals it had as it was made.
+    pub fn literals(&self) -> usize
+        ensures { result ≡ 10 + 2 * self.now.count }
+    {
+        10 + 2 * self.count
     }
-}
 
-fn swap(list: &mut [u16; NUMBERS], i: usize, j: usize) {
-    let one = list[i % NUMBERS];
-    list[i % NUMBERS] = list[j % NUMBERS];
-    list[j % NUMBERS] = one;
-}
+    // Exchanges the triplet at a place with the next one, unless that is an operand of it.
+    fn exchange(&mut self, place: usize)
+        requires { place < 7 }
+    {
+        let v = (FIRST + place) as u16;
+        let next = 3 * place + 3;
+        if place + 1 >= self.count
+            || self.numbers[next + 1] / 2 == v
+            || self.numbers[next + 2] / 2 == v
+        {
+            return;
+        }
+        for i in 3 * place..next {
+            self.numbers.swap(i, i + 3);
+        }
+        rename(&mut self.numbers, v);
+        rename(&mut self.names, v);
+    }
 
-// Exchanges the triplet at a place with the next one, unless that is an operand of it.
-fn exchange(list: &mut [u16; NUMBERS], count: usize, place: usize) {
-    let at = place % 7;
-    if at + 1 >= count {
-        return;
+    // Exchanges some triplets, which the seed decides.
+    pub fn reorder(&mut self, seed: usize) {
+        for i in 0..16 {
+            self.exchange(draw(seed, 300 + i, 7));
+        }
     }
-    let v = (FIRST + at) as u16;
-    if list[3 * at + 4] / 2 == v {
-        return;
-    }
-    if list[3 * at + 5] / 2 == v {
-        return;
-    }
-    swap(list, 3 * at, 3 * at + 3);
-    swap(list, 3 * at + 1, 3 * at + 4);
-    swap(list, 3 * at + 2, 3 * at + 5);
-    rename(list, v);
-}
-
-// The list after some exchanges, which the seed decides.
-pub fn reordered(list: [u16; NUMBERS], count: usize, seed: usize) -> [u16; NUMBERS] {
-    let mut now = list;
-    let mut i: usize = 0;
-    while i < 16 {
-        exchange(&mut now, count, draw(seed, 300 + i, 7));
-        i += 1;
-    }
-    now
 }

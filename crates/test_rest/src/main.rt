@@ -7,20 +7,19 @@ mod lists;
 mod naive;
 mod report;
 
-use compare::disagreements;
+use compare::{ORDERS, disagreements};
+use std::io;
 
 // The lists that are tried.
 const LISTS: usize = 2000;
 
-fn main() {
-    let mut wrong: usize = 0;
-    let mut seed: usize = 0;
-    while seed < LISTS {
-        wrong += disagreements(seed, wrong > 0);
-        seed += 1;
+fn main(rt: HostRuntime) -> io::Result<()> {
+    let mut wrong = 0;
+    for seed in 0..LISTS {
+        wrong += disagreements(&rt, seed, wrong > 0)?;
     }
-    io::print_decimal(1, (compare::ORDERS * LISTS) as u64);
-    io::write_all(1, b" comparisons of rest with a naive reference, ");
-    io::print_decimal(1, wrong as u64);
-    io::write_all(1, b" disagreements\n");
+    println!(rt;
+        "{} comparisons of rest with a naive reference, {wrong} disagreements",
+        ORDERS * LISTS
+    )
 }

@@ -2,3 +2,4 @@ pub mod Computed
 pub mod Values
 pub mod Words
 pub mod Written
+pub mod OneProof

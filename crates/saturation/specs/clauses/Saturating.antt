@@ -1,12 +1,11 @@
 -- What saturate, a pass over the flags and a split do, said of the relation that an array keeps.
-use Rattle.std.specs.Prelude.{ℕ, suc, ◌+◌, ◌*◌, ◌≤◌, ◌≡◌, true, List, ◌⊎◌}
+use Rattle.std.specs.Prelude.{ℕ, suc, ◌+◌, ◌*◌, ◌≡◌, true, List, ◌⊎◌}
 use Rattle.notation.specs.Triplets.{Triplet}
-use Rattle.notation.specs.Ceilings.{flag_ceiling}
 use Rattle.relation.specs.Relation.{Rel, Within}
 use Rattle.relation.specs.clauses.Growing.{Growth}
 use Rattle.relation.specs.clauses.Classes.{Classes, kept}
 use Rattle.steps.specs.Rest.{NoStepEnlarges}
-use Rattle.steps.specs.clauses.Resting.{Readable, in_use, triplets_at}
+use Rattle.steps.specs.clauses.Resting.{in_use, triplets_at}
 use Rattle.saturation.specs.Saturation.{taking, Stable, Saturated, SaturationOf, Flags}
 
 -- S ties the variable f to true or to false
@@ -17,12 +16,6 @@ Ties S f = (S (2 * f) 0 ≡ true) ⊎ (S (2 * f + 1) 0 ≡ true)
 abbrev pub HoldsSplit : (ℕ → Type 0) → List Triplet → ℕ → ℕ → Rel → Type 0
 HoldsSplit D ts k f S =
     (l m : ℕ) → Saturated D ts k (taking S (2 * f)) l m → Saturated D ts k (taking S (2 * f + 1)) l m → S l m ≡ true
-
--- the numbers begin with c triplets, n is a number of flags, and xs keeps a relation of their variables
-pub record Ready (numbers : List ℕ) (c n : ℕ) (xs : List ℕ) : Type 0 where
-  pub readable : Readable numbers c
-  pub flags : n ≤ flag_ceiling
-  pub classes : Classes (in_use c) xs
 
 -- ys keeps the k-saturation of the relation of xs, by the first c triplets and splits on flags 1 to n
 pub record SaturatedTo (numbers : List ℕ) (c n k : ℕ) (xs ys : List ℕ) : Type 0 where

@@ -1,5 +1,5 @@
 -- What a step, a pass over the triplets and rest do, said of the relation that an array keeps.
-use Rattle.std.specs.Prelude.{ℕ, zero, suc, ◌+◌, ◌*◌, ◌≤◌, ◌<◌, ◌/◌, ◌≡◌, List, [], ◌∷◌, ◌++◌, length, get_or}
+use Rattle.std.specs.Prelude.{ℕ, zero, suc, ◌+◌, ◌≤◌, ◌<◌, ◌/◌, List, [], ◌∷◌, ◌++◌}
 use Rattle.notation.specs.Triplets.{Triplet}
 use Rattle.notation.specs.clauses.Shape.{kind_at, y_at, z_at}
 use Rattle.notation.specs.Ceilings.{flag_ceiling}
@@ -9,13 +9,8 @@ use Rattle.relation.specs.Least.{Least}
 use Rattle.relation.specs.clauses.Growing.{Growth}
 use Rattle.relation.specs.clauses.Classes.{Classes, kept}
 use Rattle.steps.specs.Step.{HoldsStep}
-use Rattle.steps.specs.Table.{entry, NamesHold}
+use Rattle.steps.specs.Table.{NamesHold}
 use Rattle.steps.specs.Rest.{NoStepEnlarges, RestOf}
-
--- the list is the step table: 105 entries for kind 0, then 105 for kind 1
-pub record Entries (es : List ℕ) : Type 0 where
-  pub long : length es ≡ 210
-  pub right : (kind p : ℕ) → kind ≤ 1 → p < 105 → get_or es (105 * kind + p) 0 ≡ entry kind p
 
 -- a triplet of one of the two kinds over variables below n
 pub record Usable (n kind x y z : ℕ) : Type 0 where

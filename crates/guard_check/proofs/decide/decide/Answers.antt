@@ -1,10 +1,11 @@
 use Prim.Native.Nat.{ℕ, ◌/◌, ◌<◌}
-use mathlib.Core.Path.{◌≡◌, refl, sym, ap, ◌∙◌}
+use mathlib.Core.Path.{◌≡◌, refl, sym, ap, ◌∙◌, subst}
 use native.Mathlib.Omega.{arith}
 use Rattle.notation.specs.clauses.Writing.{signed}
 use Rattle.truth.proofs.Computing.{named-below}
+use Rattle.relation.specs.clauses.Keeping.{Fresh}
 use Rattle.relation.proofs.LiteralLaws.{signed-half, signed_odd}
-use Rattle.relation.proofs.ClassLaws.{classes-more}
+use Rattle.relation.proofs.JoinLaws.{joined-at}
 use Rattle.steps.specs.clauses.Resting.{in_use}
 use Rattle.guard_check.proofs.Trying.{trying_start, trying-next, trying-fits, decided-covered, decided-gap, decided-undecided}
 use Rattle.guard_check.proofs.decide.decide.Goals as goal
@@ -19,68 +20,70 @@ join-requires c =
     omega (arith, named-below c.args.flags c.args.count c.args.root c.requires.flags c.requires.named) in
     let below : c.turned.result / 2 < in_use c.args.count =
     half_of c.args.root _ c.turned.result (in_use c.args.count) c.turned.ensures inside in
-    record {
-      classes = classes-more 0 (in_use c.args.count) c.fresh-start.result.of (omega arith) (omega (arith, c.requires.count)) c.fresh-start.ensures.classes;
-      l_bound = (below, omega arith);
-    }
+    (omega (arith, below, c.over-relation.ensures.in_use), omega (arith, c.over-relation.ensures.in_use))
 
 pub returns-then-is_contradictory : goal.returns-then-is_contradictory
 returns-then-is_contradictory c =
     let start =
-    trying_start c.args.triplets.now c.args.count c.args.flags c.args.depth c.args.root c.fresh-start.result.of c.join.new.of
-    c.saturate.new.of c.turned.result (c.turned.ensures ∙ signed_odd c.args.root 1 refl) c.fresh-start.ensures c.join.ensures
-    c.saturate.ensures in
+    trying_start c.args.triplets.now c.args.count c.args.flags c.args.depth c.args.root c.over-relation.result.of c.join.new.self.of
+    c.saturate.new.relation.of c.turned.result (c.turned.ensures ∙ signed_odd c.args.root 1 refl)
+    (subst Fresh (sym c.over-relation.ensures.same) c.fresh.ensures.only)
+    (joined-at c.over-relation.ensures.in_use c.join.ensures.joined) c.saturate.ensures.saturated in
     decided-covered c.args.triplets.now c.args.count c.args.flags c.args.depth c.args.root
-    c.saturate.new.of start (sym c.is_contradictory.ensures ∙ c.if-is_contradictory.true)
+    c.saturate.new.relation.of start (sym c.is_contradictory.ensures ∙ c.if-is_contradictory.true)
 
 pub loop-done-init : goal.loop-done-init
 loop-done-init c =
     let start =
-    trying_start c.args.triplets.now c.args.count c.args.flags c.args.depth c.args.root c.fresh-start.result.of c.join.new.of
-    c.saturate.new.of c.turned.result (c.turned.ensures ∙ signed_odd c.args.root 1 refl) c.fresh-start.ensures c.join.ensures
-    c.saturate.ensures in
-    (omega arith, start)
+    trying_start c.args.triplets.now c.args.count c.args.flags c.args.depth c.args.root c.over-relation.result.of c.join.new.self.of
+    c.saturate.new.relation.of c.turned.result (c.turned.ensures ∙ signed_odd c.args.root 1 refl)
+    (subst Fresh (sym c.over-relation.ensures.same) c.fresh.ensures.only)
+    (joined-at c.over-relation.ensures.in_use c.join.ensures.joined) c.saturate.ensures.saturated in
+    record { size = c.saturate.ensures.size ∙ c.join.ensures.size ∙ c.over-relation.ensures.in_use; trying = start }
 
 pub overflow_mul-state : goal.overflow_mul-state
 overflow_mul-state c =
     omega (
       arith,
-      trying-fits c.args.triplets.now c.args.count c.args.flags c.args.depth c.args.root c.loop-done.done c.loop-done.state c.loop-done.of
-          (omega (arith, c.requires.flags)) c.loop-done.invariant.1,
+      trying-fits c.args.triplets.now c.args.count c.args.flags c.args.depth c.args.root c.loop-done.done c.loop-done.state
+          c.loop-done.relation.of (omega (arith, c.requires.flags)) c.loop-done.invariant.trying,
     )
 
 pub overflow_add-state : goal.overflow_add-state
 overflow_add-state c =
     omega (
       arith,
-      c.test-bit.ensures.bit,
-      trying-fits c.args.triplets.now c.args.count c.args.flags c.args.depth c.args.root c.loop-done.done
-          c.loop-done.state c.loop-done.of (omega (arith, c.requires.flags)) c.loop-done.invariant.1,
+      c.test-bit.ensures.tested.bit,
+      trying-fits c.args.triplets.now c.args.count c.args.flags c.args.depth c.args.root c.loop-done.done c.loop-done.state
+          c.loop-done.relation.of (omega (arith, c.requires.flags)) c.loop-done.invariant.trying,
     )
 
 pub loop-done-preserved : goal.loop-done-preserved
-loop-done-preserved c = (
-  omega arith,
-  trying-next c.args.triplets.now c.args.count c.args.flags c.args.depth c.args.root c.loop-done.done c.loop-done.state c.test-bit.result
-      c.loop-done.of c.test-bit.new.of c.loop-done.invariant.1 c.test-bit.ensures,
-)
+loop-done-preserved c =
+    record {
+      size = c.test-bit.ensures.size ∙ c.loop-done.invariant.size;
+      trying = trying-next c.args.triplets.now c.args.count c.args.flags c.args.depth c.args.root c.loop-done.done c.loop-done.state
+          c.test-bit.result c.loop-done.relation.of c.test-bit.new.relation.of c.loop-done.invariant.trying c.test-bit.ensures.tested;
+    }
 
 pub returns-then-is_contradictory-2 : goal.returns-then-is_contradictory-2
 returns-then-is_contradictory-2 c =
     let start =
-    trying_start c.args.triplets.now c.args.count c.args.flags c.args.depth c.args.root c.fresh-start.result.of c.join.new.of
-    c.saturate.new.of c.turned.result (c.turned.ensures ∙ signed_odd c.args.root 1 refl) c.fresh-start.ensures c.join.ensures
-    c.saturate.ensures in
+    trying_start c.args.triplets.now c.args.count c.args.flags c.args.depth c.args.root c.over-relation.result.of c.join.new.self.of
+    c.saturate.new.relation.of c.turned.result (c.turned.ensures ∙ signed_odd c.args.root 1 refl)
+    (subst Fresh (sym c.over-relation.ensures.same) c.fresh.ensures.only)
+    (joined-at c.over-relation.ensures.in_use c.join.ensures.joined) c.saturate.ensures.saturated in
     decided-undecided c.args.triplets.now c.args.count c.args.flags c.args.depth c.args.root c.loop-done.done c.loop-done.state
-    c.saturate.new.of c.loop-done.of (omega arith) start (sym c.is_contradictory.ensures ∙ c.if-is_contradictory.false) c.loop-done.invariant.1 (sym
-    c.is_contradictory-2.ensures ∙ c.if-is_contradictory-2.true)
+    c.saturate.new.relation.of c.loop-done.relation.of (omega arith) start (sym c.is_contradictory.ensures ∙ c.if-is_contradictory.false)
+    c.loop-done.invariant.trying (sym c.is_contradictory-2.ensures ∙ c.if-is_contradictory-2.true)
 
 pub returns : goal.returns
 returns c =
     let start =
-    trying_start c.args.triplets.now c.args.count c.args.flags c.args.depth c.args.root c.fresh-start.result.of c.join.new.of
-    c.saturate.new.of c.turned.result (c.turned.ensures ∙ signed_odd c.args.root 1 refl) c.fresh-start.ensures c.join.ensures
-    c.saturate.ensures in
+    trying_start c.args.triplets.now c.args.count c.args.flags c.args.depth c.args.root c.over-relation.result.of c.join.new.self.of
+    c.saturate.new.relation.of c.turned.result (c.turned.ensures ∙ signed_odd c.args.root 1 refl)
+    (subst Fresh (sym c.over-relation.ensures.same) c.fresh.ensures.only)
+    (joined-at c.over-relation.ensures.in_use c.join.ensures.joined) c.saturate.ensures.saturated in
     decided-gap c.args.triplets.now c.args.count c.args.flags c.args.depth c.args.root c.loop-done.done c.loop-done.state
-    c.saturate.new.of c.loop-done.of (omega arith) start (sym c.is_contradictory.ensures ∙ c.if-is_contradictory.false) c.loop-done.invariant.1 (sym
-    c.is_contradictory-2.ensures ∙ c.if-is_contradictory-2.false)
+    c.saturate.new.relation.of c.loop-done.relation.of (omega arith) start (sym c.is_contradictory.ensures ∙ c.if-is_contradictory.false)
+    c.loop-done.invariant.trying (sym c.is_contradictory-2.ensures ∙ c.if-is_contradictory-2.false)

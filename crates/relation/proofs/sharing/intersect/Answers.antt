@@ -28,16 +28,16 @@ loop-v-preserved c =
     let inside : u < length c.loop-v.of = omega arith in (
       search rules,
       search rules,
-      (λ j p. stored_other c.loop-v.of u c.shared_leader-w.result j (λ q. omega arith) ∙ c.loop-v.invariant.2 j (omega arith)),
+      (λ j p. stored_other c.loop-v.of u c.shared_leader.result j (λ q. omega arith) ∙ c.loop-v.invariant.2 j (omega arith)),
       λ j p. ⊎_elim
           (λ (q : j ≡ u). subst (λ (i : ℕ). SharedLeader (entry c.args.of.now) (entry c.args.other.now) i
-          (entry (set c.loop-v.of u c.shared_leader-w.result) i)) (sym q)
+          (entry (set c.loop-v.of u c.shared_leader.result) i)) (sym q)
           (subst (λ (w : ℕ). SharedLeader (entry c.args.of.now) (entry c.args.other.now) u w)
-          (sym (get_or-set_same c.loop-v.of u c.shared_leader-w.result (2 * u) inside))
-          (shared_same (entry c.args.of.now) (entry c.loop-v.of) (entry c.args.other.now) u c.shared_leader-w.result
-          (λ i h. c.loop-v.invariant.2 i (omega arith)) c.shared_leader-w.ensures)))
+          (sym (get_or-set_same c.loop-v.of u c.shared_leader.result (2 * u) inside))
+          (shared_same (entry c.args.of.now) (entry c.loop-v.of) (entry c.args.other.now) u c.shared_leader.result
+          (λ i h. c.loop-v.invariant.2 i (omega arith)) c.shared_leader.ensures)))
           (λ (q : j ≡ u → ⊥). subst (λ (w : ℕ). SharedLeader (entry c.args.of.now) (entry c.args.other.now) j w)
-          (sym (stored_other c.loop-v.of u c.shared_leader-w.result j q)) (c.loop-v.invariant.3 j (omega arith)))
+          (sym (stored_other c.loop-v.of u c.shared_leader.result j q)) (c.loop-v.invariant.3 j (omega arith)))
           (split-eq j u),
     )
 

@@ -13,7 +13,7 @@ loop-u-init c =
     let a-is : get_or c.args.of.now c.args.v 0 ≡ entry c.args.of.now c.args.v = entry_at c.args.of.now c.args.v 0 (search rules) in
     let b-is : get_or c.args.other.now c.args.v 0 ≡ entry c.args.other.now c.args.v = entry_at c.args.other.now c.args.v 0 (search rules)
     in
-    let start : c.higher-u.result ≡ max (entry c.args.of.now c.args.v / 2) (entry c.args.other.now c.args.v / 2) = c.higher-u.ensures ∙ ap₂
+    let start : c.max-start.result ≡ max (entry c.args.of.now c.args.v / 2) (entry c.args.other.now c.args.v / 2) = c.max-start.ensures ∙ ap₂
     (λ (a b : ℕ). max (a / 2) (b / 2)) a-is b-is in (
       omega (arith, start, c.requires.lower.lower c.args.v, c.requires.lower_2.lower c.args.v),
       subst (λ (u : ℕ). NoneBelow (entry c.args.of.now) (entry c.args.other.now) c.args.v u) (sym start)

@@ -1,24 +1,29 @@
-use borrow.Author.Rules.{rules}
-use Prim.Native.Nat.{◌*◌}
+use Prim.Native.Nat.{ℕ, ◌*◌}
+use mathlib.Core.Path.{◌∙◌, subst}
 use native.Mathlib.Omega.{arith}
-use borrow.Author.Tests.{eq-eqb}
-use Rattle.relation.specs.clauses.Classes.{entry}
-use Rattle.steps.specs.clauses.Resting.{in_use}
+use Rattle.notation.specs.clauses.Shape.{kind_at, y_at, z_at}
+use Rattle.relation.proofs.ClassLaws.{contradictory-told}
+use Rattle.steps.specs.clauses.Resting.{in_use, Stepped}
 use Rattle.steps.proofs.Resting.{passing-next, passing-done, passing-broken}
 use Rattle.steps.proofs.rest.pass.Goals as goal
 
-pub returns-then-of-eq1 : goal.returns-then-of-eq1
-returns-then-of-eq1 c =
-    passing-broken c.args.triplets.now c.args.count c.loop-j.j c.args.of.now c.loop-j.of (eq-eqb (entry c.loop-j.of 0) 1 c.if-of-eq1.true)
-    c.loop-j.invariant.1
+pub returns-then-is_contradictory-clause-passed : goal.returns-then-is_contradictory-clause-passed
+returns-then-is_contradictory-clause-passed c =
+    passing-broken c.args.triplets.now c.args.count c.loop-j.j c.args.relation.now.of c.loop-j.relation.of
+    (contradictory-told c.loop-j.relation.of c.is_contradictory.ensures c.if-is_contradictory.true) c.loop-j.invariant.passing
 
 pub loop-j-preserved : goal.loop-j-preserved
-loop-j-preserved c = (
-  search rules,
-  passing-next c.args.triplets.now c.args.count c.loop-j.j (2 * in_use c.loop-j.j) c.args.of.now c.loop-j.of c.step.new.of
-      c.loop-j-test.true c.loop-j.invariant.1 (omega arith) c.step.ensures,
-)
+loop-j-preserved c =
+    record {
+      size = c.step.ensures.size ∙ c.loop-j.invariant.size;
+      passing = passing-next c.args.triplets.now c.args.count c.loop-j.j (2 * in_use c.loop-j.j) c.args.relation.now.of
+          c.loop-j.relation.of c.step.new.relation.of c.loop-j-test.true c.loop-j.invariant.passing (omega arith)
+          (subst (λ (n : ℕ). Stepped n (kind_at c.args.triplets.now c.loop-j.j) (2 * in_use c.loop-j.j) (y_at c.args.triplets.now c.loop-j.j)
+          (z_at c.args.triplets.now c.loop-j.j) c.loop-j.relation.of c.step.new.relation.of) (c.loop-j.invariant.size ∙ c.requires.size)
+          c.step.ensures.stepped);
+    }
 
-pub returns : goal.returns
-returns c =
-    passing-done c.args.triplets.now c.args.count c.loop-j.j c.args.of.now c.loop-j.of c.loop-j-test.false c.loop-j.invariant.1
+pub returns-clause-passed : goal.returns-clause-passed
+returns-clause-passed c =
+    passing-done c.args.triplets.now c.args.count c.loop-j.j c.args.relation.now.of c.loop-j.relation.of c.loop-j-test.false
+    c.loop-j.invariant.passing
