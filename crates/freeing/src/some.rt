@@ -8,16 +8,8 @@ ghost use Rattle.notation.specs.clauses.Shape.{Names, Shape};
 ghost use Rattle.truth.specs.clauses.Words.{word_bits};
 ghost use Rattle.freeing.specs.clauses.Some.{PutFlag, flag_literal, Begun, FixedSome};
 
-use crate::fold::fold;
-use crate::triplet::{constant, negated};
-
-// How many flags and triplets are left, and what became of the root.
-#[derive(Clone, Copy)]
-pub struct Freed {
-    pub flags: usize,
-    pub count: usize,
-    pub root: u16,
-}
+use fixing::fold::{Left, fold};
+use fixing::triplet::{constant, negated};
 
 // Whether bit i of a word is set.
 fn is_set(word: u64, i: usize) -> bool
@@ -57,13 +49,11 @@ fn start_flags(to: &mut [u16], n: usize, keep: u64, state: u64) -> usize
     ensures { Begun n keep state n to.old to.new result }
 {
     let mut free = 0;
-    let mut i = 0;
-    while i < n {
+    for i in 0..n {
         let place = n - (i + 1);
         let kept = is_set(keep, place);
         let value = is_set(state, place);
         free = start_flag(to, i + 1, kept, value, free);
-        i += 1;
     }
     free
 }
@@ -88,17 +78,12 @@ pub fn fix_some(
     state: u64,
     to: &mut [u16],
     ys: &mut [u16],
-) -> Freed
+) -> Left
     requires n_le_flag_ceiling { (n ≤ flag_ceiling) × (count ≤ connective_ceiling) × (3 * count ≤ length xs.now)
         × (2 * triplet_variable (suc connective_ceiling) ≤ length to.old) × (3 * connective_ceiling ≤ length ys.old) }
     requires shape { Shape n count xs.now × Names n count root }
     ensures { FixedSome n keep state xs.now count root ys.new result.flags result.count result.root }
 {
     let flags = start_some(to, n, keep, state);
-    let left = fold(xs, count, root, flags, n, to, ys);
-    Freed {
-        flags: flags,
-        count: left.count,
-        root: left.root,
-    }
+    fold(xs, count, root, flags, n, to, ys)
 }

@@ -11,7 +11,7 @@ ghost use Rattle.why.specs.Explained.{fault, Explains};
 ghost use Rattle.why.specs.clauses.Keeping.{none_found, Decides, Turned, Keeping};
 
 use freeing::some::fix_some;
-use freeing::triplet::negated;
+use fixing::triplet::negated;
 use gaps::writing::Found;
 use notation::ceilings::{CODES_ROOM, TRIPLETS_ROOM, VARIABLES};
 use notation::refusal::Refusal;

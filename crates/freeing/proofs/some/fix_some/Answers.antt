@@ -3,8 +3,8 @@ use native.Mathlib.Omega.{arith}
 use Rattle.freeing.proofs.Freeing.{table-some, free-few, fixed-some}
 use Rattle.freeing.proofs.some.fix_some.Goals as goal
 
-pub fold-left-requires : goal.fold-left-requires
-fold-left-requires c =
+pub fold-requires : goal.fold-requires
+fold-requires c =
     record {
       less_le_n = (
         free-few _ _ _ _ _ _ c.start_some-flags.ensures,
@@ -19,4 +19,4 @@ fold-left-requires c =
 
 pub returns : goal.returns
 returns c =
-    fixed-some _ _ _ _ _ _ c.start_some-flags.ensures _ _ _ _ _ _ c.fold-left.ensures
+    rw c.fold.ensures.flags (fixed-some _ _ _ _ _ _ c.start_some-flags.ensures _ _ _ _ _ _ c.fold.ensures.folded)

@@ -17,12 +17,12 @@ side-returns-then-last-start t c =
 
 pub side-returns-then-left-eq0 : goal.side-returns-then-left-eq0
 side-returns-then-left-eq0 t c =
-    walked-true _ _ _ _ _ _ _ _ c.fix_first-left.ensures _ _ _ _ _ _ _ c.requires.low_le_n.2 c.if-left-eq0.true c.requires.triplets.3
+    walked-true _ _ _ _ _ _ _ _ c.fix_first-left.ensures.fixed _ _ _ _ _ _ _ c.requires.low_le_n.2 c.if-left-eq0.true c.requires.triplets.3
     c.requires.triplets.1.right
 
 pub side-returns : goal.side-returns
 side-returns t c =
-    walked-left _ _ _ _ _ _ _ _ c.fix_first-left.ensures _ _ _ _ _ _ _ c.requires.low_le_n.2 _ _ c.walk.ensures
+    walked-left _ _ _ _ _ _ _ _ c.fix_first-left.ensures.fixed _ _ _ _ _ _ _ c.requires.low_le_n.2 _ _ c.walk.ensures
 
 pub walk-side-found-requires : goal.walk-side-found-requires
 walk-side-found-requires t c = (

@@ -1,12 +1,19 @@
 // Folds a guard's triplets, given what became of its flags.
-ghost use Rattle.std.specs.Prelude.{suc, ◌*◌, ◌≤◌, length};
+ghost use Rattle.std.specs.Prelude.{◌≡◌, suc, ◌*◌, ◌≤◌, length};
 ghost use Rattle.notation.specs.Ceilings.{flag_ceiling, connective_ceiling};
 ghost use Rattle.notation.specs.Triplets.{triplet_variable};
 ghost use Rattle.notation.specs.clauses.Shape.{Names, Shape};
-ghost use Rattle.freeing.specs.clauses.Folding.{reading, Table, Folded};
+ghost use Rattle.fixing.specs.clauses.Folding.{reading, Table, Folded};
 
 use crate::triplet::fix_triplet;
-use fixing::Left;
+
+// How many flags and triplets are left, and what became of the root.
+#[derive(Clone, Copy)]
+pub struct Left {
+    pub flags: usize,
+    pub count: usize,
+    pub root: u16,
+}
 
 // Folds the triplets over n flags, given what became of the flags: writes those that are left, over `less` flags.
 pub fn fold(
@@ -21,15 +28,15 @@ pub fn fold(
     requires less_le_n { (less ≤ n) × (n ≤ flag_ceiling) × (count ≤ connective_ceiling) × (3 * count ≤ length xs.now)
         × (2 * triplet_variable (suc connective_ceiling) ≤ length to.old) × (3 * connective_ceiling ≤ length ys.old) }
     requires shape { Shape n count xs.now × Names n count root × Table less n (reading to.old) }
-    ensures { Folded less n (reading to.old) xs.now count root ys.new result.count result.root }
+    ensures flags { result.flags ≡ less }
+    ensures folded { Folded less n (reading to.old) xs.now count root ys.new result.count result.root }
 {
     let mut c = 0;
-    let mut j = 0;
-    while j < count {
+    for j in 0..count {
         c = fix_triplet(xs, j, to, ys, c);
-        j += 1;
     }
     Left {
+        flags: less,
         count: c,
         root: to[root as usize],
     }

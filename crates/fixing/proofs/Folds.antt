@@ -17,12 +17,34 @@ use Rattle.truth.specs.clauses.Computed.{literal_value, computed}
 use Rattle.truth.proofs.Literals.{literal-even, literal-odd, literal-negation, literal-agrees}
 use Rattle.truth.proofs.Computing.{named-below, named-kept, named-cases, computed_same, triplet-made, flag-kept, true-at-start, flag-at-start}
 use Rattle.fixing.specs.clauses.Fixing.{Stands, TripletFixed}
-use Rattle.fixing.proofs.Fixes.{Alike, named_more, named-of}
-use Rattle.freeing.specs.clauses.Folding.{Table, Reads, Folding, Folded}
+use Rattle.fixing.specs.clauses.Folding.{Table, Reads, Folding, Folded}
+
+-- names of fewer triplets are names of more
+pub named_more : (n j k l : ℕ) → j ≤ k → Names n j l → Names n k l
+named_more n j k l h m =
+    ⊎_elim
+    (λ (p : l / 2 ≤ n). inl p)
+    (λ (p : (triplet_variable 0 < l / 2) × (l / 2 ≤ triplet_variable j)). inr (p.0, higher (l / 2) p.1))
+    m
+  where
+    higher : (v : ℕ) → v ≤ triplet_variable j → v ≤ triplet_variable k
+    higher v q = omega arith
+
+-- a literal over the variable of another, or over true, is named where that one is
+pub named-of : (n c y z r : ℕ) → Names n c y → Names n c z → (r / 2 ≡ 0) ⊎ ((r / 2 ≡ y / 2) ⊎ (r / 2 ≡ z / 2)) → Names n c r
+named-of n c y z r p q o =
+    ⊎_elim
+    (λ (e : r / 2 ≡ 0). inl (omega arith))
+    (⊎_elim (λ (e : r / 2 ≡ y / 2). rw e p) (λ (e : r / 2 ≡ z / 2). rw e q))
+    o
 
 -- the two literals of a variable
 literal-two : (l x : ℕ) → l / 2 ≡ x → (l ≡ 2 * x) ⊎ (l ≡ 2 * x + 1)
 literal-two l x e = ⊎_elim (λ (p : l % 2 ≡ 0). inl (omega arith)) (λ (p : l % 2 ≡ 1). inr (omega arith)) (parity l)
+
+-- what f and g say of every literal but those of a variable
+abbrev pub Alike : (ℕ → ℕ) → (ℕ → ℕ) → ℕ → Type 0
+Alike f g x = (l : ℕ) → (l / 2 ≡ x → ⊥) → g l ≡ f l
 
 module _ (less n : ℕ) (R : ℕ → ℕ → Type 0) (xs : List ℕ) (j : ℕ) (f : ℕ → ℕ) (c : ℕ) (ys : List ℕ) (fewer : less ≤ n)
     (small : n ≤ flag_ceiling) (i : Folding less n R xs j f c ys) where

@@ -1,4 +1,4 @@
-// What a triplet becomes where its operands are known, as in crate fixing, whose functions for this are its own.
+// What a triplet becomes where its operands are known: a literal that stands for it, or one of the triplets that are left.
 ghost use Rattle.std.specs.Prelude.{◌≡◌, suc, ◌+◌, ◌*◌, ◌^◌, ◌≤◌, ◌<◌, length};
 ghost use Rattle.ground.specs.Choice.{choose};
 ghost use Rattle.notation.specs.Ceilings.{connective_ceiling};
@@ -7,6 +7,7 @@ ghost use Rattle.fixing.specs.clauses.Fixing.{Simplified, Put, Operands, Triplet
 
 use notation::ceilings::FLAGS;
 
+// The negation of a literal.
 pub fn negated(l: u16) -> u16
     requires { l + 1 < 2 ^ 16 }
     ensures { result ≡ negation l }
@@ -14,67 +15,38 @@ pub fn negated(l: u16) -> u16
     2 * (l / 2) + (l + 1) % 2
 }
 
-// A literal that stands for `y implies z`, or x where there is none.
-fn implied(y: u16, z: u16, x: u16) -> u16
-    requires { (y + 1 < 2 ^ 16) × (z + 1 < 2 ^ 16) }
-    ensures { Simplified 0 y z x result }
+// The literal of a truth value.
+pub fn constant(b: bool) -> u16
+    ensures { (result ≡ choose b 0 1) × (result ≤ 1) }
 {
-    if y == 0 {
-        return z;
-    }
-    if y == 1 {
-        return 0;
-    }
-    if z == 0 {
-        return 0;
-    }
-    if z == 1 {
-        return negated(y);
-    }
-    if y == z {
-        return 0;
-    }
-    if y == negated(z) {
-        return z;
-    }
-    x
+    if b { 0 } else { 1 }
 }
 
-// A literal that stands for `y same as z`, or x where there is none.
-fn equal(y: u16, z: u16, x: u16) -> u16
-    requires { (y + 1 < 2 ^ 16) × (z + 1 < 2 ^ 16) }
-    ensures { Simplified 1 y z x result }
-{
-    if y == 0 {
-        return z;
-    }
-    if y == 1 {
-        return negated(z);
-    }
-    if z == 0 {
-        return y;
-    }
-    if z == 1 {
-        return negated(y);
-    }
-    if y == z {
-        return 0;
-    }
-    if y == negated(z) {
-        return 1;
-    }
-    x
-}
-
-// A literal that stands for the triplet of this kind of y and z, or x where there is none.
+// A literal that stands for the triplet of this kind of y and z, or x where there is none: `y implies z` of kind 0, else `y same as z`.
 fn simplified(kind: u16, y: u16, z: u16, x: u16) -> u16
     requires { (kind ≤ 1) × (y + 1 < 2 ^ 16) × (z + 1 < 2 ^ 16) }
     ensures { Simplified kind y z x result }
 {
-    if kind == 0 {
-        return implied(y, z, x);
+    let implies = kind == 0;
+    if y == 0 {
+        return z;
     }
-    equal(y, z, x)
+    if z == 1 {
+        return negated(y);
+    }
+    if y == z {
+        return 0;
+    }
+    if y == 1 {
+        return if implies { 0 } else { negated(z) };
+    }
+    if z == 0 {
+        return if implies { 0 } else { y };
+    }
+    if y == negated(z) {
+        return if implies { z } else { 1 };
+    }
+    x
 }
 
 // Notes that triplet j became the literal t.
@@ -85,16 +57,6 @@ fn put(to: &mut [u16], j: usize, t: u16)
     let x = 2 * (FLAGS + 1 + j);
     to[x] = t;
     to[x + 1] = negated(t);
-}
-
-// The literal of a truth value.
-pub fn constant(b: bool) -> u16
-    ensures { (result ≡ choose b 0 1) × (result ≤ 1) }
-{
-    if b {
-        return 0;
-    }
-    1
 }
 
 // Fixes triplet j, given that c are left before it: a literal stands for it, or it is one more. Answers how many are left.
@@ -113,8 +75,5 @@ pub fn fix_triplet(xs: &[u16], j: usize, to: &mut [u16], ys: &mut [u16], c: usiz
     ys[3 * c] = kind;
     ys[3 * c + 1] = y;
     ys[3 * c + 2] = z;
-    if t == x {
-        return c + 1;
-    }
-    c
+    if t == x { c + 1 } else { c }
 }

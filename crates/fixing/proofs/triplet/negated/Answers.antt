@@ -1,8 +1,8 @@
--- `freeing::triplet::negated` meets its contract: the sum is the definition's.
+-- `fixing::triplet::negated` meets its contract: the sum is the definition's.
 use Prim.Native.Nat.{ℕ, ◌+◌, ◌*◌, ◌/◌, ◌%◌}
 use mathlib.Core.Path.{◌≡◌, refl}
 use Rattle.notation.specs.Triplets.{negation}
-use Rattle.freeing.proofs.triplet.negated.Goals as goal
+use Rattle.fixing.proofs.triplet.negated.Goals as goal
 
 written : (l : ℕ) → 2 * (l / 2) + (l + 1) % 2 ≡ negation l
 unfolding negation
