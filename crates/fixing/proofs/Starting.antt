@@ -14,6 +14,10 @@ use Rattle.fixing.specs.clauses.Fixing.{StartedBy, Fixed}
 use Rattle.fixing.specs.clauses.Folding.{reading, Table, Reads, Folded}
 use Rattle.fixing.proofs.Standing.{constant-value, constant_of}
 
+-- where there is a flag, one follows the others
+pub one-more : (flags : ℕ) → 0 < flags → suc (flags - 1) ≡ flags
+one-more flags h = omega (arith, h)
+
 other-constant : (b : Bool) → choose b 1 0 ≡ negation (choose b 0 1)
 unfolding negation
 other-constant true = refl
@@ -36,8 +40,10 @@ module _ (n : ℕ) (b : Bool) (to after : List ℕ) (f : StartedBy b to after (2
       rw (f.others (2 * suc (suc i) + 1) (omega arith) (omega (arith, q)), f.others (2 * suc (suc i)) (omega arith) (omega (arith, q)))
       (one-less-odd (suc (suc i)) (omega arith))
 
-  pub table-started : Table n (suc n) (reading after)
-  table-started = record { top = f.top; bottom = f.bottom; within = within-started; odd = odd-started }
+  pub table-first : (m : ℕ) → suc n ≡ m → Table n m (reading after)
+  table-first m e =
+      let t : Table n (suc n) (reading after) = record { top = f.top; bottom = f.bottom; within = within-started; odd = odd-started } in
+      rw e at t
 
   -- a state with bit n as b stands for itself
   reads-started : (s : ℕ) → bit s n ≡ b → Reads n (suc n) (reading after) s s
@@ -50,7 +56,8 @@ module _ (n : ℕ) (b : Bool) (to after : List ℕ) (f : StartedBy b to after (2
       rw (f.others (2 * suc (suc i)) (omega arith) (omega (arith, q)))
       (literal-even (computed n s [] 0) (2 * suc (suc i) - 2) (suc i) (omega arith) ∙ flag-at-start n s [] (suc i) (omega arith) ∙ ap (bit s) e)
 
-  pub fixed-started : (xs : List ℕ) (count root : ℕ) (ys : List ℕ) (c r : ℕ) → Folded n (suc n) (reading after) xs count root ys c r
-      → Fixed n b xs count root ys c r
-  fixed-started xs count root ys c r w =
-      record { few = w.few; shape = w.shape; named = w.named; valued = λ s h. w.valued s s (reads-started s h) }
+  pub fixed-first : (m : ℕ) → suc n ≡ m → (xs : List ℕ) (count root : ℕ) (ys : List ℕ) (c r : ℕ)
+      → Folded n m (reading after) xs count root ys c r → Fixed n b xs count root ys c r
+  fixed-first m e xs count root ys c r w =
+      let u : Folded n (suc n) (reading after) xs count root ys c r = rw (← e) at w in
+      record { few = u.few; shape = u.shape; named = u.named; valued = λ s h. u.valued s s (reads-started s h) }

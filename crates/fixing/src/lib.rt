@@ -4,14 +4,14 @@
 pub mod fold;
 pub mod triplet;
 
-ghost use Rattle.std.specs.Prelude.{◌≡◌, suc, ◌+◌, ◌*◌, ◌≤◌, ◌<◌, length};
+ghost use Rattle.std.specs.Prelude.{◌≡◌, suc, ◌+◌, ◌*◌, ◌-◌, ◌≤◌, ◌<◌, length};
 ghost use Rattle.notation.specs.Ceilings.{flag_ceiling, connective_ceiling};
 ghost use Rattle.notation.specs.Triplets.{triplet_variable};
-ghost use Rattle.notation.specs.clauses.Shape.{Names, Shape};
 ghost use Rattle.fixing.specs.clauses.Fixing.{StartedBy, Fixed};
 
-use crate::fold::{Left, fold};
+use crate::fold::fold;
 use crate::triplet::constant;
+use truth::formula::Formula;
 
 // What becomes of true and of the flags: the first is b, each further one is one less.
 fn start(to: &mut [u16], n: usize, b: bool)
@@ -28,22 +28,15 @@ fn start(to: &mut [u16], n: usize, b: bool)
     }
 }
 
-// Fixes the first of n + 1 flags as b: writes the triplets that are left, over n flags.
-pub fn fix_first(
-    xs: &[u16],
-    count: usize,
-    root: u16,
-    n: usize,
-    b: bool,
-    to: &mut [u16],
-    ys: &mut [u16],
-) -> Left
-    requires n_lt_flag_ceiling { (n < flag_ceiling) × (count ≤ connective_ceiling) × (3 * count ≤ length xs.now)
-        × (2 * triplet_variable (suc connective_ceiling) ≤ length to.old) × (3 * connective_ceiling ≤ length ys.old) }
-    requires shape { Shape (suc n) count xs.now × Names (suc n) count root }
-    ensures flags { result.flags ≡ n }
-    ensures fixed { Fixed n b xs.now count root ys.new result.count result.root }
+// Fixes the first flag of a formula as b: writes the triplets that are left, over one flag fewer, and answers them with what became of the root.
+pub fn fix_first<'a>(formula: &Formula, b: bool, to: &mut [u16], ys: &'a mut [u16]) -> Formula<'a>
+    requires some_flag { 0 < formula.now.flags }
+    requires long { (2 * triplet_variable (suc connective_ceiling) ≤ length to.old) × (3 * connective_ceiling ≤ length ys.old) }
+    ensures flags { result.flags ≡ formula.now.flags - 1 }
+    ensures fixed { Fixed (formula.now.flags - 1) b formula.now.triplets.now formula.now.count formula.now.root
+        result.triplets.now result.count result.root }
 {
-    start(to, n, b);
-    fold(xs, count, root, n, n + 1, to, ys)
+    let less = formula.flags - 1;
+    start(to, less, b);
+    fold(formula, less, to, ys)
 }

@@ -2,18 +2,11 @@
 ghost use Rattle.std.specs.Prelude.{◌≡◌, suc, ◌+◌, ◌*◌, ◌^◌, ◌≤◌, ◌<◌, length};
 ghost use Rattle.ground.specs.Choice.{choose};
 ghost use Rattle.notation.specs.Ceilings.{connective_ceiling};
-ghost use Rattle.notation.specs.Triplets.{triplet_variable, negation};
+ghost use Rattle.notation.specs.Triplets.{triplet_variable};
 ghost use Rattle.fixing.specs.clauses.Fixing.{Simplified, Put, Operands, TripletFixed};
 
 use notation::ceilings::FLAGS;
-
-// The negation of a literal.
-pub fn negated(l: u16) -> u16
-    requires { l + 1 < 2 ^ 16 }
-    ensures { result ≡ negation l }
-{
-    2 * (l / 2) + (l + 1) % 2
-}
+use notation::triplets::negated;
 
 // The literal of a truth value.
 pub fn constant(b: bool) -> u16

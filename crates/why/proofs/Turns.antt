@@ -1,5 +1,5 @@
 -- The turn of a flag on the mask, what the search tells of it, and the ways of why.
-use Prim.Native.Nat.{ℕ, zero, suc, ◌+◌, ◌*◌, ◌-◌, ◌/◌, ◌%◌, ◌^◌, ◌≤◌, ◌<◌}
+use Prim.Native.Nat.{ℕ, zero, suc, ◌+◌, ◌*◌, ◌-◌, ◌%◌, ◌^◌, ◌≤◌, ◌<◌}
 use native.Mathlib.Omega.{arith}
 use mathlib.Core.Path.{◌≡◌, refl, sym, ap, ◌∙◌, fun_ext}
 use mathlib.Core.Bool.{Bool, true, false}
@@ -8,23 +8,20 @@ use mathlib.Core.Logic.{inl, inr, ⊎_elim}
 use lib.ListN.{length}
 use lib.Dec.{leb, ltb}
 use lib.Pow.{pow-lt}
-use Rattle.notation.specs.Ceilings.{flag_ceiling, connective_ceiling}
 use Rattle.notation.specs.Triplets.{negation}
 use Rattle.notation.specs.Reading.{refusal, reading}
 use Rattle.notation.specs.declared.refusal.Refusal.{Refusal}
 use Rattle.reading.specs.declared.parse.Guard as counted
 use Rattle.reading.proofs.Serving as serving
 use Rattle.truth.specs.Value.{value}
-use Rattle.truth.specs.clauses.Computed.{root_value, Triplets}
+use Rattle.truth.specs.clauses.Computed.{root_value}
 use Rattle.truth.specs.clauses.Words.{word_bits}
-use Rattle.truth.proofs.Computing.{named-below}
 use Rattle.truth.proofs.Written.{written-value}
 use Rattle.read_truth.proofs.Begun.{read_flags, read-begins}
 use Rattle.gaps.specs.Gaps.{false_from}
 use Rattle.gaps.specs.clauses.Rows.{Writes}
 use Rattle.gaps.specs.declared.writing.Found.{Found}
 use Rattle.freeing.specs.clauses.Some.{keeps, FixedSome}
-use Rattle.freeing.proofs.Freeing.{free-below}
 use Rattle.why.specs.Numbered.{state_with}
 use Rattle.why.specs.Kept.{Forces, every, without, Went}
 use Rattle.why.specs.clauses.Keeping.{none_found, Decides, Turned, Keeping}
@@ -38,25 +35,7 @@ pub shifted : (n : ℕ) → n < word_bits → 1 * 2 ^ n % 18446744073709551616 �
 shifted n h = let l : 2 ^ n < 2 ^ 64 = pow-lt h in omega (arith, l)
 
 -- a search with no room tells whether the kept flags force a gap
-module _ (n keep gap : ℕ) (xs : List ℕ) (count root : ℕ) (ys : List ℕ) (m c r u : ℕ) (few : n ≤ flag_ceiling) (small : count ≤ connective_ceiling)
-    (w : FixedSome n keep gap xs count root ys m c r) where
-  pub free-small : m ≤ flag_ceiling
-  free-small = let f : m ≤ n = rw w.flags (free-below (keeps n keep) n) in omega (arith, f, few)
-
-  pub root-small : r + 1 < 65536
-  root-small = omega (arith, named-below m c r free-small w.named, w.few, small)
-
-  pub searchable : u / 2 ≡ r / 2 → 3 * connective_ceiling ≤ length ys → Triplets m ys c u × (0 ≤ 2 ^ m)
-  searchable e h = (
-    record {
-      flags = free-small;
-      count = (omega (arith, w.few, small), omega (arith, w.few, small, h));
-      shape = w.shape;
-      named = rw e w.named;
-    },
-    omega arith,
-  )
-
+module _ (n keep gap : ℕ) (xs : List ℕ) (count root : ℕ) (ys : List ℕ) (m c r u : ℕ) (w : FixedSome n keep gap xs count root ys m c r) where
   pub forced-says : u ≡ negation r → (out after : List ℕ) (b : Bool) (t : Found) → length out ≡ 0
       → Writes out 0 (false_from (root_value m ys c u) 0 (2 ^ m - 0)) t after → b ≡ none_found t
       → Decides b (Forces n (root_value n xs count root) gap (keeps n keep))

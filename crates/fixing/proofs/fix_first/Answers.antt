@@ -1,12 +1,11 @@
 -- `fixing::fix_first` meets its contract: the table of the first flag, folded.
-use native.Mathlib.Numerals.{add-one}
-use Rattle.fixing.proofs.Starting.{table-started, fixed-started}
+use Rattle.fixing.proofs.Starting.{one-more, table-first, fixed-first}
 use Rattle.fixing.proofs.fix_first.Goals as goal
 
-pub fold-requires-clause-shape : goal.fold-requires-clause-shape
-fold-requires-clause-shape c =
-    rw add-one (c.requires.shape.0, c.requires.shape.1, table-started _ _ _ _ c.start.ensures)
+pub fold-requires-clause-table : goal.fold-requires-clause-table
+fold-requires-clause-table c =
+    table-first _ _ _ _ c.start.ensures _ (one-more _ c.requires.some_flag)
 
 pub returns-clause-fixed : goal.returns-clause-fixed
 returns-clause-fixed c =
-    fixed-started _ _ _ _ c.start.ensures _ _ _ _ _ _ (rw add-one at c.fold.ensures.folded)
+    fixed-first _ _ _ _ c.start.ensures _ (one-more _ c.requires.some_flag) _ _ _ _ _ _ c.fold.ensures.folded

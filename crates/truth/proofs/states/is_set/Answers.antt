@@ -1,7 +1,7 @@
--- `freeing::some::is_set` meets its contract.
+-- `truth::states::is_set` meets its contract.
 use mathlib.Core.Path.{refl}
 use Rattle.ground.specs.Bits.{bit}
-use Rattle.freeing.proofs.some.is_set.Goals as goal
+use Rattle.truth.proofs.states.is_set.Goals as goal
 
 pub returns : goal.returns
 unfolding bit
