@@ -9,6 +9,7 @@ ghost use Rattle.rows.specs.clauses.Rows.{turned, RowMade, TripletMade, FlagRows
 ghost use Rattle.truth.specs.clauses.Words.{word_bits};
 
 use notation::ceilings::FLAGS;
+use truth::states::is_set;
 
 // Flags whose states one word holds.
 pub const WORD_FLAGS: usize = 6;
@@ -17,7 +18,7 @@ pub const WORD_FLAGS: usize = 6;
 pub const WORD_BITS: u64 = 64;
 
 // The word of all ones.
-pub const ONES: u64 = 18446744073709551615;
+pub const ONES: u64 = u64::MAX;
 
 // All ones for a negated literal, else zero.
 pub fn turn(l: u16) -> u64
@@ -109,10 +110,11 @@ fn flag_word(p: usize, w: usize) -> u64
     if p < WORD_FLAGS {
         return LOW[p];
     }
-    if (w >> (p - WORD_FLAGS)) % 2 == 0 {
-        return 0;
+    if is_set(w as u64, p - WORD_FLAGS) {
+        ONES
+    } else {
+        0
     }
-    ONES
 }
 
 // Makes the rows of true and of n flags.

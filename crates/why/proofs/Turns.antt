@@ -14,7 +14,9 @@ use Rattle.notation.specs.declared.refusal.Refusal.{Refusal}
 use Rattle.reading.specs.declared.parse.Guard as counted
 use Rattle.reading.proofs.Serving as serving
 use Rattle.truth.specs.Value.{value}
+use Rattle.truth.specs.declared.formula.Formula.{Formula}
 use Rattle.truth.specs.clauses.Computed.{root_value}
+use Rattle.truth.specs.clauses.Formulas.{value_of}
 use Rattle.truth.specs.clauses.Words.{word_bits}
 use Rattle.truth.proofs.Written.{written-value}
 use Rattle.read_truth.proofs.Begun.{read_flags, read-begins}
@@ -34,17 +36,17 @@ use Rattle.why.proofs.Forcing.{none-where-room, forced-decides}
 pub shifted : (n : ℕ) → n < word_bits → 1 * 2 ^ n % 18446744073709551616 ≡ 2 ^ n
 shifted n h = let l : 2 ^ n < 2 ^ 64 = pow-lt h in omega (arith, l)
 
--- a search with no room tells whether the kept flags force a gap
-module _ (n keep gap : ℕ) (xs : List ℕ) (count root : ℕ) (ys : List ℕ) (m c r u : ℕ) (w : FixedSome n keep gap xs count root ys m c r) where
-  pub forced-says : u ≡ negation r → (out after : List ℕ) (b : Bool) (t : Found) → length out ≡ 0
-      → Writes out 0 (false_from (root_value m ys c u) 0 (2 ^ m - 0)) t after → b ≡ none_found t
-      → Decides b (Forces n (root_value n xs count root) gap (keeps n keep))
-  forced-says e out after b t z p q =
-      let l : List ℕ = false_from (root_value m ys c u) 0 (2 ^ m - 0) in
-      let same : b ≡ leb (length (false_from (root_value m ys c u) 0 (2 ^ m - 0))) (length out) = q ∙ ap none_found p.answers
-      ∙ none-where-room (false_from (root_value m ys c u) 0 (2 ^ m - 0)) (length out) in
-      let told : b ≡ leb (length (false_from (root_value m ys c (negation r)) 0 (2 ^ m - 0))) 0 = rw (z, e) at same in
-      forced-decides n keep gap xs count root ys m c r w b told
+-- a search with no room, at the other sign of what is left, tells whether the kept flags force a gap
+pub forced-says : (n keep gap : ℕ) (xs : List ℕ) (count root : ℕ) (ys : List ℕ) (m c r : ℕ) → FixedSome n keep gap xs count root ys m c r
+    → (f : Formula) → f.triplets.now ≡ ys → f.count ≡ c → f.root ≡ negation r → f.flags ≡ m
+    → (out after : List ℕ) (b : Bool) (t : Found) → length out ≡ 0
+    → Writes out 0 (false_from (value_of f) 0 (2 ^ f.flags - 0)) t after → b ≡ none_found t
+    → Decides b (Forces n (root_value n xs count root) gap (keeps n keep))
+forced-says n keep gap xs count root ys m c r w f et ec er ef out after b t z p q =
+    let same : b ≡ leb (length (false_from (value_of f) 0 (2 ^ f.flags - 0))) (length out) = q ∙ ap none_found p.answers
+    ∙ none-where-room (false_from (value_of f) 0 (2 ^ f.flags - 0)) (length out) in
+    let told : b ≡ leb (length (false_from (root_value m ys c (negation r)) 0 (2 ^ m - 0))) 0 = rw (z, et, ec, er, ef) at same in
+    forced-decides n keep gap xs count root ys m c r w b told
 
 -- one turn
 pub turn-dropped : (n : ℕ) (v : ℕ → Bool) (gap keep place e : ℕ) (b : Bool) → e ≡ 2 ^ place → b ≡ true
