@@ -1,5 +1,5 @@
 -- The literals that stand for a triplet: by the truth tables, where an operand is constant or the operands are equal or opposite.
-use Prim.Native.Nat.{ℕ, suc, ◌+◌, ◌*◌, ◌-◌, ◌/◌, ◌≤◌, ◌<◌}
+use Prim.Native.Nat.{ℕ, zero, suc, ◌+◌, ◌*◌, ◌-◌, ◌/◌, ◌≤◌, ◌<◌}
 use mathlib.Core.Path.{◌≡◌, refl, ap, ◌∙◌}
 use mathlib.Core.Bool.{Bool, true, false, not}
 use mathlib.Core.List.{List}
@@ -14,12 +14,9 @@ use Rattle.notation.specs.Triplets.{triplet_variable, negation}
 use Rattle.truth.specs.Connectives.{table, gate}
 use Rattle.truth.specs.clauses.Computed.{literal_value}
 use Rattle.truth.proofs.Literals.{literal-even, literal-odd, literal-negation}
-use Rattle.notation.specs.Ceilings.{flag_ceiling}
 use Rattle.notation.proofs.Shaped.{negation-half}
-use Rattle.notation.specs.clauses.Shape.{Names, kind_at, y_at, z_at}
-use Rattle.fixing.specs.clauses.Fixing.{Stands, Simplified, Put, StartedBy, TripletFixed, Fixing}
-use Rattle.truth.proofs.Computing.{named-below}
-use Rattle.fixing.proofs.Fixes.{Started, fixing-stands, fixing-new}
+use Rattle.notation.specs.clauses.Shape.{kind_at, y_at, z_at}
+use Rattle.fixing.specs.clauses.Fixing.{Stands, Simplified, Put, StartedBy, TripletFixed}
 
 module _ (v : ℕ → Bool) (t : v 0 ≡ true) where
   value-true : literal_value v 0 ≡ true
@@ -121,6 +118,16 @@ module _ (y z : ℕ) where
   unfolding gate
   same-opposed e = record { value = λ v t. rw (e, literal-negation v z, value-false v t) (same-opposite (literal_value v z)); of = inl refl }
 
+-- what stands for a triplet of kind 0, and for one of kind 1, stands for one of either
+pub of-either : (kind y z r : ℕ) → kind ≤ 1 → Stands 0 y z r → Stands 1 y z r → Stands kind y z r
+of-either zero y z r h s t = s
+of-either (suc zero) y z r h s t = t
+of-either (suc (suc k)) y z r h s t = absurd (omega (arith, h))
+
+-- of kind 1, where it is not 0
+pub of_same : (kind y z r : ℕ) → kind ≤ 1 → (kind ≡ 0 → ⊥) → Stands 1 y z r → Stands kind y z r
+of_same kind y z r h n s = let e : kind ≡ 1 = omega (arith, h, n) in rw e s
+
 -- two stores say what triplet j became
 pub put-made : (to : List ℕ) (j t x u : ℕ) → x ≡ 2 * triplet_variable (suc j) → x + 1 < length to → u ≡ negation t → Put to j t
     (set (set to x t) (x + 1) u)
@@ -175,29 +182,13 @@ filled_more b to after l v f h w e =
     last : (k : ℕ) → k < l + 1 → k ≤ l
     last k q = omega arith
 
-constant-value : (v : ℕ → Bool) → v 0 ≡ true → (b : Bool) → literal_value v (choose b 0 1) ≡ b
+pub constant-value : (v : ℕ → Bool) → v 0 ≡ true → (b : Bool) → literal_value v (choose b 0 1) ≡ b
 constant-value v t true = value-true v t
 constant-value v t false = value-false v t
 
-constant-other : (v : ℕ → Bool) → v 0 ≡ true → (b : Bool) → literal_value v (choose b 1 0) ≡ not b
-constant-other v t true = value-false v t
-constant-other v t false = value-true v t
-
-constant_of : (b : Bool) → (◌/◌ (choose b 0 1) 2 ≡ 0) × (◌/◌ (choose b 1 0) 2 ≡ 0)
+pub constant_of : (b : Bool) → (◌/◌ (choose b 0 1) 2 ≡ 0) × (◌/◌ (choose b 1 0) 2 ≡ 0)
 constant_of true = (refl, refl)
 constant_of false = (refl, refl)
-
--- the table at the start says of each literal what it should
-pub started : (n : ℕ) (b : Bool) (to after : List ℕ) → StartedBy b to after (2 * n + 4) → Started n b (λ l. get_or after l 0)
-started n b to after s =
-    record {
-      top = s.top;
-      bottom = s.bottom;
-      first = λ v t. rw s.first (constant-value v t b);
-      not_first = λ v t. rw s.not_first (constant-other v t b);
-      constant = (rw s.first (constant_of b).0, rw s.not_first (constant_of b).1);
-      others = λ l p q. s.others l p (omega arith);
-    }
 
 pub started-by : (b : Bool) (to to' after : List ℕ) (l m : ℕ) → StartedBy b to' after l → m ≤ l → length to' ≡ length to → StartedBy b
     to after m
@@ -279,28 +270,3 @@ module _ (xs : List ℕ) (j : ℕ) (to : List ℕ) (c : ℕ) (ys to' : List ℕ)
         agree = three-agree ys c (kind_at xs j) (get_or to (y_at xs j) 0) (get_or to (z_at xs j) 0) h;
         became = inl (refl, ⊎_elim (λ (e : t ≡ x). absurd (n e)) (λ (s : Stands (kind_at xs j) (get_or to (y_at xs j) 0) (get_or to (z_at xs j) 0) t). s) o);
       }
-
--- one triplet fixed, one more is
-pub fixing-again : (n : ℕ) (b : Bool) (xs : List ℕ) (j : ℕ) (to : List ℕ) (c : ℕ) (ys to' : List ℕ) (c' : ℕ) (ys' : List ℕ) → suc n
-    ≤ flag_ceiling
-    → Fixing n b xs j (λ l. get_or to l 0) c ys → Names (suc n) j (y_at xs j) → Names (suc n) j (z_at xs j) → kind_at xs j ≤ 1
-    → TripletFixed xs j to c ys to' c' ys' → Fixing n b xs (suc j) (λ l. get_or to' l 0) c' ys'
-fixing-again n b xs j to c ys to' c' ys' small i ny nz k r =
-    ⊎_elim
-    (λ (p : (c' ≡ c) × Stands (kind_at xs j) (get_or to (y_at xs j) 0) (get_or to (z_at xs j) 0) r.t).
-    rw p.0
-    (fixing-stands n b xs j (λ l. get_or to l 0) c ys small i ny nz (λ l. get_or to' l 0) r.t ys' r.put.others r.put.even r.put.odd
-    r.agree p.1))
-    (λ (p : (c' ≡ suc c) × (r.t ≡ 2 * triplet_variable (suc c)) × (kind_at ys' c ≡ kind_at xs j) × (y_at ys' c ≡ get_or to (y_at xs j) 0)
-    × (z_at ys' c ≡ get_or to (z_at xs j) 0)).
-    rw p.0
-    (fixing-new n b xs j (λ l. get_or to l 0) c ys small i ny nz (λ l. get_or to' l 0) r.t ys' r.put.others r.put.even r.put.odd r.agree
-    p.1 k p.2 p.3 p.4))
-    r.became
-
--- what became of an operand lies below the triplet, and so does the operand
-pub operand_below : (n : ℕ) (b : Bool) (xs : List ℕ) (j : ℕ) (to : List ℕ) (c : ℕ) (ys : List ℕ) (l : ℕ) → suc n ≤ flag_ceiling
-    → Fixing n b xs j (λ l. get_or to l 0) c ys → Names (suc n) j l → 2 * triplet_variable (suc j) ≤ length to
-    → (l < length to) × (get_or to l 0 / 2 < triplet_variable (suc j))
-operand_below n b xs j to c ys l small i m h =
-    (omega (arith, named-below (suc n) j l small m), omega (arith, named-below n c (get_or to l 0) (omega arith) (i.named l m), i.few))

@@ -1,7 +1,7 @@
 -- Fixing some flags: the table at the start, flag by flag, and what it reads.
 use Prim.Native.Nat.{ℕ, zero, suc, ◌+◌, ◌*◌, ◌-◌, ◌/◌, ◌≤◌, ◌<◌}
 use mathlib.Core.Path.{◌≡◌, refl, sym, ap, ◌∙◌}
-use mathlib.Core.Bool.{Bool, true, false, not}
+use mathlib.Core.Bool.{Bool, true, false}
 use mathlib.Core.List.{List, []}
 use mathlib.Core.Logic.{⊎_elim}
 use native.Mathlib.Omega.{arith}
@@ -12,19 +12,11 @@ use Rattle.ground.specs.Choice.{choose}
 use Rattle.notation.specs.Triplets.{negation}
 use Rattle.ground.specs.Bits.{bit}
 use Rattle.truth.specs.clauses.Computed.{literal_value, computed}
-use Rattle.truth.proofs.Literals.{literal-even, literal-odd}
+use Rattle.truth.proofs.Literals.{literal-even}
 use Rattle.truth.proofs.Computing.{true-at-start, flag-at-start}
-use Rattle.freeing.specs.clauses.Folding.{Table, Reads, Folded, reading}
+use Rattle.fixing.specs.clauses.Folding.{Table, Reads, Folded, reading}
+use Rattle.fixing.proofs.Standing.{constant-value, constant_of}
 use Rattle.freeing.specs.clauses.Some.{keeps, free_of, flag_literal, StandsFor, PutFlag, Begun, FixedSome}
-
--- the literal of a truth value
-constant-value : (v : ℕ → Bool) → v 0 ≡ true → (b : Bool) → literal_value v (choose b 0 1) ≡ b
-constant-value v t true = literal-even v 0 0 refl ∙ t
-constant-value v t false = literal-odd v 1 0 refl ∙ ap not t
-
-constant_of : (b : Bool) → ◌/◌ (choose b 0 1) 2 ≡ 0
-constant_of true = refl
-constant_of false = refl
 
 -- two stores say what flag i became
 pub put-flag-made : (to : List ℕ) (i t u : ℕ) → 2 * i + 1 < length to → u ≡ negation t → PutFlag to i t (set (set to (2 * i) t) (2 * i + 1) u)
@@ -137,7 +129,7 @@ begun_more n keep state i to₀ to to' free free' kept value b ek ev p e =
 
 -- what a flag became names true or a free flag
 literal-within : (k v : Bool) (a m : ℕ) → a ≤ m → flag_literal k v a / 2 ≤ m
-literal-within true v a m h = rw (constant_of v) (omega arith)
+literal-within true v a m h = rw (constant_of v).0 (omega arith)
 literal-within false v a m h = omega (arith, h)
 
 -- and has its value

@@ -1,6 +1,4 @@
 // Fixes some flags of a guard's triplets, those of a mask: what becomes constant, or another's equal, goes.
 #![tactic(auto)]
 
-pub mod fold;
 pub mod some;
-pub mod triplet;

@@ -1,31 +1,15 @@
 // Fixes the flags of a mask as in a state; the others, which are free, are numbered in order.
 ghost use Rattle.std.specs.Prelude.{◌≡◌, suc, ◌+◌, ◌*◌, ◌^◌, ◌≤◌, ◌<◌, length, get_or};
-ghost use Rattle.ground.specs.Bits.{bit};
 ghost use Rattle.ground.specs.Choice.{choose};
 ghost use Rattle.notation.specs.Ceilings.{flag_ceiling, connective_ceiling};
 ghost use Rattle.notation.specs.Triplets.{triplet_variable};
-ghost use Rattle.notation.specs.clauses.Shape.{Names, Shape};
-ghost use Rattle.truth.specs.clauses.Words.{word_bits};
 ghost use Rattle.freeing.specs.clauses.Some.{PutFlag, flag_literal, Begun, FixedSome};
 
-use crate::fold::fold;
-use crate::triplet::{constant, negated};
-
-// How many flags and triplets are left, and what became of the root.
-#[derive(Clone, Copy)]
-pub struct Freed {
-    pub flags: usize,
-    pub count: usize,
-    pub root: u16,
-}
-
-// Whether bit i of a word is set.
-fn is_set(word: u64, i: usize) -> bool
-    requires { i < word_bits }
-    ensures { result ≡ bit word i }
-{
-    (word >> i) % 2 == 1
-}
+use fixing::fold::fold;
+use fixing::triplet::constant;
+use notation::triplets::negated;
+use truth::formula::Formula;
+use truth::states::is_set;
 
 // Notes that flag i became the literal t.
 fn put_flag(to: &mut [u16], i: usize, t: u16)
@@ -57,13 +41,11 @@ fn start_flags(to: &mut [u16], n: usize, keep: u64, state: u64) -> usize
     ensures { Begun n keep state n to.old to.new result }
 {
     let mut free = 0;
-    let mut i = 0;
-    while i < n {
+    for i in 0..n {
         let place = n - (i + 1);
         let kept = is_set(keep, place);
         let value = is_set(state, place);
         free = start_flag(to, i + 1, kept, value, free);
-        i += 1;
     }
     free
 }
@@ -78,27 +60,18 @@ fn start_some(to: &mut [u16], n: usize, keep: u64, state: u64) -> usize
     start_flags(to, n, keep, state)
 }
 
-// Fixes the flags of `keep`, of n, as in the state: writes the triplets that are left, over the free flags.
-pub fn fix_some(
-    xs: &[u16],
-    count: usize,
-    root: u16,
-    n: usize,
+// Fixes the flags of `keep` as in the state: writes the triplets that are left, over the free flags, and answers them with what became of the root.
+pub fn fix_some<'a>(
+    formula: &Formula,
     keep: u64,
     state: u64,
     to: &mut [u16],
-    ys: &mut [u16],
-) -> Freed
-    requires n_le_flag_ceiling { (n ≤ flag_ceiling) × (count ≤ connective_ceiling) × (3 * count ≤ length xs.now)
-        × (2 * triplet_variable (suc connective_ceiling) ≤ length to.old) × (3 * connective_ceiling ≤ length ys.old) }
-    requires shape { Shape n count xs.now × Names n count root }
-    ensures { FixedSome n keep state xs.now count root ys.new result.flags result.count result.root }
+    ys: &'a mut [u16],
+) -> Formula<'a>
+    requires { (2 * triplet_variable (suc connective_ceiling) ≤ length to.old) × (3 * connective_ceiling ≤ length ys.old) }
+    ensures { FixedSome formula.now.flags keep state formula.now.triplets.now formula.now.count formula.now.root
+        result.triplets.now result.flags result.count result.root }
 {
-    let flags = start_some(to, n, keep, state);
-    let left = fold(xs, count, root, flags, n, to, ys);
-    Freed {
-        flags: flags,
-        count: left.count,
-        root: left.root,
-    }
+    let free = start_some(to, formula.flags, keep, state);
+    fold(formula, free, to, ys)
 }

@@ -16,6 +16,14 @@ pub enum Found {
     More { written: usize, next: u64 },
 }
 
+// Where a stretch of states is written: it begins at state `base`, a state counts from `start` on, and `from` numbers of the slice are written.
+#[derive(Clone, Copy)]
+pub struct Place {
+    pub base: u64,
+    pub start: u64,
+    pub from: usize,
+}
+
 // Writes base + i for each bit i of the word, after the first `from` numbers of the slice.
 pub fn write_word(word: u64, base: u64, from: usize, out: &mut [u32]) -> Found
     requires { (from ≤ length out.old) × (base + word_bits ≤ 2 ^ 32) }
@@ -42,10 +50,11 @@ pub fn write_word(word: u64, base: u64, from: usize, out: &mut [u32]) -> Found
 }
 
 // The same for the states from `start` on.
-fn write_from(word: u64, base: u64, start: u64, from: usize, out: &mut [u32]) -> Found
-    requires { (from ≤ length out.old) × (base + 2 * word_bits ≤ 2 ^ 32) }
-    ensures { Writes out.old from (false_from (since start (λ s. not (bit word (s - base)))) base word_bits) result out.new }
+fn write_from(word: u64, place: Place, out: &mut [u32]) -> Found
+    requires { (place.from ≤ length out.old) × (place.base + 2 * word_bits ≤ 2 ^ 32) }
+    ensures { Writes out.old place.from (false_from (since place.start (λ s. not (bit word (s - place.base)))) place.base word_bits) result out.new }
 {
+    let Place { base, start, from } = place;
     if start <= base {
         return write_word(word, base, from, out);
     }
@@ -80,37 +89,37 @@ fn words_of(n: usize) -> usize
     1 << (n - WORD_FLAGS)
 }
 
-// Writes base + s for each state s of n flags in which the literal is false, as its row has it, from `start` on.
+// Writes base + s for each state s of n flags in which the literal is false, as its row has it.
 pub fn write_row(
     rows: &[u64],
     root: u16,
     n: usize,
     width: usize,
-    base: u64,
-    start: u64,
-    from: usize,
+    place: Place,
     out: &mut [u32],
 ) -> Found
-    requires n_lt_word_bits { (n < word_bits) × (2 ^ n ≤ word_bits * width) × (base + word_bits * width + word_bits ≤ 2 ^ 32) }
-    requires root_bound { (root + 1 < 2 ^ 16) × (suc (root / 2) * width ≤ length rows.now) × (from ≤ length out.old) }
-    ensures { Writes out.old from (false_from (since start (λ s. literal_value (in_row rows.now width (s - base)) root)) base
+    requires n_lt_word_bits { (n < word_bits) × (2 ^ n ≤ word_bits * width) × (place.base + word_bits * width + word_bits ≤ 2 ^ 32) }
+    requires root_bound { (root + 1 < 2 ^ 16) × (suc (root / 2) * width ≤ length rows.now) × (place.from ≤ length out.old) }
+    ensures { Writes out.old place.from (false_from (since place.start (λ s. literal_value (in_row rows.now width (s - place.base)) root)) place.base
         (2 ^ n)) result out.new }
 {
     let x = ((root / 2) as usize) * width;
     let t = turn(root + 1);
     let live = live_word(n);
     let words = words_of(n);
-    let mut w = 0;
-    let mut m = from;
-    while w < words {
+    let mut m = place.from;
+    for w in 0..words {
         let gap = (rows[x + w] ^ t) & live;
-        let at = base + WORD_BITS * (w as u64);
-        let found = write_from(gap, at, start, m, out);
+        let at = Place {
+            base: place.base + WORD_BITS * (w as u64),
+            from: m,
+            ..place
+        };
+        let found = write_from(gap, at, out);
         let Found::Done(k) = found else {
             return found;
         };
         m = k;
-        w += 1;
     }
     Found::Done(m)
 }

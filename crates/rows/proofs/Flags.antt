@@ -52,19 +52,11 @@ outside p w b h i =
 pub word_low : (p w : ℕ) → p < word_flags → WordOf p w (get_or low p 0)
 word_low p w h b i = low_bit p b h i ∙ sym (inside p w b h)
 
-bit-even : (w q : ℕ) → w / 2 ^ q % 2 ≡ 0 → bit w q ≡ false
-unfolding bit
-bit-even w q e = rw e
+pub word-zeros : (p w : ℕ) → word_flags ≤ p → bit w (p - word_flags) ≡ false → WordOf p w 0
+word-zeros p w h e b i = bit-none b ∙ sym (outside p w b h i ∙ e)
 
-bit-odd : (w q : ℕ) → (w / 2 ^ q % 2 ≡ 0 → ⊥) → bit w q ≡ true
-unfolding bit
-bit-odd w q n = eq-eqb (w / 2 ^ q % 2) 1 (⊎_elim (λ (e : w / 2 ^ q % 2 ≡ 0). absurd (n e)) (λ (e : w / 2 ^ q % 2 ≡ 1). e) (parity (w / 2 ^ q)))
-
-pub word-zeros : (p w : ℕ) → word_flags ≤ p → w / 2 ^ (p - word_flags) % 2 ≡ 0 → WordOf p w 0
-word-zeros p w h e b i = bit-none b ∙ sym (outside p w b h i ∙ bit-even w (p - word_flags) e)
-
-pub word_ones : (p w : ℕ) → word_flags ≤ p → (w / 2 ^ (p - word_flags) % 2 ≡ 0 → ⊥) → WordOf p w all_ones
-word_ones p w h n b i = bit-ones b i ∙ sym (outside p w b h i ∙ bit-odd w (p - word_flags) n)
+pub word_ones : (p w : ℕ) → word_flags ≤ p → bit w (p - word_flags) ≡ true → WordOf p w all_ones
+word_ones p w h e b i = bit-ones b i ∙ sym (outside p w b h i ∙ e)
 
 -- the rows of true and of the first i of n flags are made
 pub record FirstFlags (n width i : ℕ) (rows after : List ℕ) : Type 0 where

@@ -1,13 +1,13 @@
 -- A row that is made word by word.
 use Prim.Native.Nat.{ℕ, ◌+◌, ◌≤◌, ◌<◌}
-use mathlib.Core.Path.{◌≡◌, refl, sym, ap₂, ◌∙◌, subst}
+use mathlib.Core.Path.{◌≡◌, refl, sym, ◌∙◌, subst}
 use mathlib.Core.List.{List}
 use mathlib.Core.Logic.{⊎_elim}
 use native.Mathlib.Omega.{arith}
 use native.Mathlib.Nat.{eq-or-lt_of_le}
 use lib.ListN.{length, get_or, set, length-set}
 use lib.Seq.{get_or-set_same, get_or-set_other}
-use Rattle.rows.specs.clauses.Rows.{RowMade, RowOf}
+use Rattle.rows.specs.clauses.Rows.{RowMade}
 
 pub row-none : (rows : List ℕ) (x : ℕ) (R : ℕ → ℕ → Type 0) → RowMade rows x 0 R rows
 row-none rows x R = record { long = refl; made = λ w h. absurd (omega arith); kept = λ k h. refl }
@@ -27,9 +27,7 @@ row_more rows rows' x w v R m h e =
     last : (u : ℕ) → u < w + 1 → u ≤ w
     last u p = omega arith
 
--- one more word by an operation on two rows that lie before
-pub row-worked : (op : ℕ → ℕ → ℕ) (rows rows' : List ℕ) (x y z width w : ℕ) → RowOf op rows x y z w rows' → w < width
-    → (y + width ≤ x) × (z + width ≤ x) × (x + width ≤ length rows)
-    → RowOf op rows x y z (w + 1) (set rows' (x + w) (op (get_or rows' (y + w) 0) (get_or rows' (z + w) 0)))
-row-worked op rows rows' x y z width w m h p =
-    row_more rows rows' x w _ _ m (omega (arith, m.long)) (ap₂ op (m.kept (y + w) (omega arith)) (m.kept (z + w) (omega arith)))
+-- what holds of each word may be said otherwise
+pub row-as : (rows : List ℕ) (x width : ℕ) (R R' : ℕ → ℕ → Type 0) (after : List ℕ) → RowMade rows x width R after
+    → ((w r : ℕ) → w < width → R w r → R' w r) → RowMade rows x width R' after
+row-as rows x width R R' after m f = record { long = m.long; made = λ w h. f w (get_or after (x + w) 0) h (m.made w h); kept = m.kept }

@@ -1,15 +1,15 @@
 // The values of variables in many states at once: 64 states to a word, a row of words to a variable.
 #![tactic(auto)]
 
-ghost use Rattle.std.specs.Prelude.{◌≡◌, suc, ◌+◌, ◌*◌, ◌-◌, ◌/◌, ◌^◌, ◌≤◌, ◌<◌, length};
-ghost use Rattle.std.specs.Int.Bits.{bit_or, bit_xor};
+ghost use Rattle.std.specs.Prelude.{ℕ, ◌≡◌, suc, ◌+◌, ◌*◌, ◌-◌, ◌/◌, ◌^◌, ◌≤◌, ◌<◌, length, get_or};
 ghost use Rattle.notation.specs.Ceilings.{flag_ceiling, connective_ceiling};
 ghost use Rattle.notation.specs.Triplets.{triplet_variable};
 ghost use Rattle.notation.specs.clauses.Shape.{Shape, y_at, z_at};
-ghost use Rattle.rows.specs.clauses.Rows.{all_ones, turned, RowMade, RowOf, TripletMade, FlagRows, Evaluated, WordOf, FlagsMade};
+ghost use Rattle.rows.specs.clauses.Rows.{turned, RowMade, TripletMade, FlagRows, Evaluated, WordOf, FlagsMade};
 ghost use Rattle.truth.specs.clauses.Words.{word_bits};
 
 use notation::ceilings::FLAGS;
+use truth::states::is_set;
 
 // Flags whose states one word holds.
 pub const WORD_FLAGS: usize = 6;
@@ -18,7 +18,7 @@ pub const WORD_FLAGS: usize = 6;
 pub const WORD_BITS: u64 = 64;
 
 // The word of all ones.
-pub const ONES: u64 = 18446744073709551615;
+pub const ONES: u64 = u64::MAX;
 
 // All ones for a negated literal, else zero.
 pub fn turn(l: u16) -> u64
@@ -30,27 +30,32 @@ pub fn turn(l: u16) -> u64
     ONES
 }
 
-// The row from x on becomes that from y on or that from z on, each turned first.
-fn or_row(rows: &mut [u64], x: usize, y: usize, z: usize, ty: u64, tz: u64, width: usize)
-    requires { (y + width ≤ x) × (z + width ≤ x) × (x + width ≤ length rows.old) }
-    ensures { RowOf (λ a b. bit_or (bit_xor a ty) (bit_xor b tz)) rows.old x y z width rows.new }
+// Makes the row from x on: its word w is what `word` says of w.
+fn make_row<F: Fn(usize) -> u64>(rows: &mut [u64], x: usize, width: usize, word: F)
+    requires within { x + width ≤ length rows.old }
+    requires callable { (w : ℕ) → w < width → F.pre word w }
+    ensures { RowMade rows.old x width (λ w r. F.post word w r) rows.new }
 {
-    let mut w = 0;
-    while w < width {
-        rows[x + w] = (rows[y + w] ^ ty) | (rows[z + w] ^ tz);
-        w += 1;
+    for w in 0..width {
+        rows[x + w] = word(w);
     }
 }
 
-// The row from x on becomes where those from y on and from z on differ, turned.
-fn xor_row(rows: &mut [u64], x: usize, y: usize, z: usize, t: u64, width: usize)
-    requires { (y + width ≤ x) × (z + width ≤ x) × (x + width ≤ length rows.old) }
-    ensures { RowOf (λ a b. bit_xor (bit_xor a b) t) rows.old x y z width rows.new }
+// Makes the row from x on: each word is what `word` makes of those at its place in the rows from y on and from z on, which lie before.
+fn join_rows<F: Fn(u64, u64) -> u64>(
+    rows: &mut [u64],
+    x: usize,
+    y: usize,
+    z: usize,
+    width: usize,
+    word: F,
+)
+    requires within { (y + width ≤ x) × (z + width ≤ x) × (x + width ≤ length rows.old) }
+    requires callable { F.IsAlwaysCallable word }
+    ensures { RowMade rows.old x width (λ w r. F.post word (get_or rows.old (y + w) 0) (get_or rows.old (z + w) 0) r) rows.new }
 {
-    let mut w = 0;
-    while w < width {
-        rows[x + w] = (rows[y + w] ^ rows[z + w]) ^ t;
-        w += 1;
+    for w in 0..width {
+        rows[x + w] = word(rows[y + w], rows[z + w]);
     }
 }
 
@@ -65,10 +70,12 @@ fn triplet_row(xs: &[u16], j: usize, rows: &mut [u64], width: usize)
     let x = (FLAGS + 1 + j) * width;
     let of_y = ((y / 2) as usize) * width;
     let of_z = ((z / 2) as usize) * width;
+    let ty = turn(y + 1);
+    let tz = turn(z);
     if xs[3 * j] == 0 {
-        or_row(rows, x, of_y, of_z, turn(y + 1), turn(z), width);
+        join_rows(rows, x, of_y, of_z, width, move |a, b| (a ^ ty) | (b ^ tz));
     } else {
-        xor_row(rows, x, of_y, of_z, turn(y + 1) ^ turn(z), width);
+        join_rows(rows, x, of_y, of_z, width, move |a, b| (a ^ b) ^ (ty ^ tz));
     }
 }
 
@@ -80,10 +87,8 @@ pub fn evaluate(xs: &[u16], count: usize, n: usize, rows: &mut [u64], width: usi
     requires flag_rows { FlagRows n width rows.old }
     ensures { Evaluated n width xs.now count rows.old rows.new }
 {
-    let mut j = 0;
-    while j < count {
+    for j in 0..count {
         triplet_row(xs, j, rows, width);
-        j += 1;
     }
 }
 
@@ -105,34 +110,10 @@ fn flag_word(p: usize, w: usize) -> u64
     if p < WORD_FLAGS {
         return LOW[p];
     }
-    if (w >> (p - WORD_FLAGS)) % 2 == 0 {
-        return 0;
-    }
-    ONES
-}
-
-// Makes the row, from x on, of the flag that is bit p of a state.
-fn flag_row(rows: &mut [u64], x: usize, p: usize, width: usize)
-    requires { (p < word_bits) × (x + width ≤ length rows.old) }
-    ensures { RowMade rows.old x width (λ w r. WordOf p w r) rows.new }
-{
-    let mut w = 0;
-    while w < width {
-        let word = flag_word(p, w);
-        rows[x + w] = word;
-        w += 1;
-    }
-}
-
-// Makes the row of true.
-fn true_row(rows: &mut [u64], width: usize)
-    requires { width ≤ length rows.old }
-    ensures { RowMade rows.old 0 width (λ _ r. r ≡ all_ones) rows.new }
-{
-    let mut w = 0;
-    while w < width {
-        rows[w] = ONES;
-        w += 1;
+    if is_set(w as u64, p - WORD_FLAGS) {
+        ONES
+    } else {
+        0
     }
 }
 
@@ -141,10 +122,9 @@ pub fn flag_rows(rows: &mut [u64], n: usize, width: usize)
     requires { (n < word_bits) × (suc n * width ≤ length rows.old) }
     ensures { FlagsMade n width rows.old rows.new }
 {
-    true_row(rows, width);
-    let mut i = 0;
-    while i < n {
-        flag_row(rows, (i + 1) * width, n - (i + 1), width);
-        i += 1;
+    make_row(rows, 0, width, |_| ONES);
+    for i in 0..n {
+        let p = n - (i + 1);
+        make_row(rows, (i + 1) * width, width, move |w| flag_word(p, w));
     }
 }

@@ -12,7 +12,7 @@ use lib.Dec.{eqb, ltb}
 use Rattle.notation.specs.Ceilings.{flag_ceiling, connective_ceiling}
 use Rattle.ground.specs.Bits.{bit}
 use Rattle.ground.proofs.Truths.{either_way}
-use Rattle.truth.specs.clauses.Computed.{computed, root_value, Triplets}
+use Rattle.truth.specs.clauses.Computed.{computed, root_value}
 use Rattle.truth.proofs.Literals.{literal-even}
 use Rattle.truth.proofs.Computing.{flag-kept, true-at-start}
 use Rattle.gaps.specs.declared.writing.Found.{Found}
@@ -40,10 +40,11 @@ always-since : (start : ℕ) (v : ℕ → Bool) (s : ℕ) → v s ≡ true → s
 unfolding since
 always-since start v s e = rw e (either_way (ltb s start))
 
-module _ (n : ℕ) (b : Bool) (xs : List ℕ) (count root : ℕ) (ys : List ℕ) (c r : ℕ) (f : Fixed n b xs count root ys c r) where
-  fixed-value : (s : ℕ) → bit s n ≡ b → root_value n ys c r s ≡ root_value (suc n) xs count root s
+module _ (n : ℕ) (b : Bool) (xs : List ℕ) (count root : ℕ) (ys : List ℕ) (c r : ℕ) (f : Fixed n b xs count root ys c r) (m : ℕ)
+    (one : suc n ≡ m) where
+  fixed-value : (s : ℕ) → bit s n ≡ b → root_value n ys c r s ≡ root_value m xs count root s
   unfolding root_value
-  fixed-value s h = f.valued s h
+  fixed-value s h = rw (← one) (f.valued s h)
 
   true-value : (s : ℕ) → r ≡ 0 → root_value n ys c r s ≡ true
   unfolding root_value
@@ -51,30 +52,26 @@ module _ (n : ℕ) (b : Bool) (xs : List ℕ) (count root : ℕ) (ys : List ℕ)
 
   module _ (start base low width from : ℕ) (out rows : List ℕ) (half : (s : ℕ) → base ≤ s → s < base + 2 ^ n → bit s n ≡ b) where
     -- what is left is true: there is nothing to find
-    pub walked-true : r ≡ 0 → from ≤ length out → FlagRows low width rows → Walked (root_value (suc n) xs count root) start base n low width from out
+    pub walked-true : r ≡ 0 → from ≤ length out → FlagRows low width rows → Walked (root_value m xs count root) start base n low width from out
         (Done from) out rows
     walked-true e h g =
         record {
           writes =
-              rw (false-none (since start (root_value (suc n) xs count root)) base (2 ^ n)
-              (λ s p q. always-since start (root_value (suc n) xs count root) s (sym (fixed-value s (half s p q)) ∙ true-value s e)))
+              rw (false-none (since start (root_value m xs count root)) base (2 ^ n)
+              (λ s p q. always-since start (root_value m xs count root) s (sym (fixed-value s (half s p q)) ∙ true-value s e)))
               (writes-none out from h);
           right = g;
         }
 
     -- what is left has the same values
     pub walked-left : (out' : List ℕ) (x : Found) → Walked (root_value n ys c r) start base n low width from out x out' rows
-        → Walked (root_value (suc n) xs count root) start base n low width from out x out' rows
+        → Walked (root_value m xs count root) start base n low width from out x out' rows
     walked-left out' x w =
         record {
-          writes = rw (since-same start (root_value n ys c r) (root_value (suc n) xs count root) base (2 ^ n) (λ s p q. fixed-value s (half s p q))) at
+          writes = rw (since-same start (root_value n ys c r) (root_value m xs count root) base (2 ^ n) (λ s p q. fixed-value s (half s p q))) at
               w.writes;
           right = w.right;
         }
-
-  pub triplets-left : suc n ≤ flag_ceiling → count ≤ connective_ceiling → 3 * connective_ceiling ≤ length ys → Triplets n ys c r
-  triplets-left small many long =
-      record { flags = omega arith; count = (omega (arith, f.few), omega (arith, f.few)); shape = f.shape; named = f.named }
 
 -- the two halves of a stretch
 module _ (m base : ℕ) (aligned : base % 2 ^ suc m ≡ 0) where

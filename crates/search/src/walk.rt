@@ -1,129 +1,88 @@
 // Walks over the states: fixes one flag after the other, and evaluates what is left on rows of words.
-ghost use Rattle.std.specs.Prelude.{◌≡◌, ℕ, suc, ◌+◌, ◌*◌, ◌^◌, ◌≤◌, ◌<◌, length};
+ghost use Rattle.std.specs.Prelude.{◌≡◌, ℕ, suc, ◌+◌, ◌*◌, ◌-◌, ◌^◌, ◌≤◌, ◌<◌, length};
 ghost use Rattle.notation.specs.Ceilings.{connective_ceiling};
 ghost use Rattle.notation.specs.Triplets.{triplet_variable};
 ghost use Rattle.ground.specs.Bits.{bit};
-ghost use Rattle.truth.specs.clauses.Computed.{root_value, Triplets};
+ghost use Rattle.truth.specs.clauses.Formulas.{value_of};
 ghost use Rattle.search.specs.clauses.Walking.{Rows, Stretch, Walked};
 
 use fixing::fix_first;
-use gaps::writing::{Found, write_row};
+use gaps::writing::{Found, Place, write_row};
 use notation::ceilings::TRIPLETS_ROOM;
 use rows::evaluate;
+use truth::formula::Formula;
 
-// All states of n flags at once.
+// All states of the formula's flags at once.
 pub fn block(
-    xs: &[u16],
-    count: usize,
-    root: u16,
-    n: usize,
+    formula: &Formula,
     rows: &mut [u64],
     width: usize,
-    base: u64,
-    start: u64,
-    from: usize,
+    place: Place,
     out: &mut [u32],
 ) -> Found
-    requires { Triplets n xs.now count root × Rows n width rows.old × Stretch n width base × (from ≤ length out.old) }
-    ensures { Walked (root_value n xs.now count root) start base n n width from out.old result out.new rows.new }
+    requires { Rows formula.now.flags width rows.old × Stretch formula.now.flags width place.base × (place.from ≤ length out.old) }
+    ensures { Walked (value_of formula.now) place.start place.base formula.now.flags formula.now.flags width place.from out.old result out.new rows.new }
 {
-    evaluate(xs, count, n, rows, width);
-    write_row(rows, root, n, width, base, start, from, out)
+    evaluate(formula.triplets, formula.count, formula.flags, rows, width);
+    write_row(rows, formula.root, formula.flags, width, place, out)
 }
 
-// One side of the first of n + 1 flags: where the triplets that are left are not simply true, walks over them.
+// One side of the first flag: where what is left of the formula is not simply true, walks over it.
 #[cycle(side_walk)]
 fn side(
-    xs: &[u16],
-    count: usize,
-    root: u16,
-    n: usize,
+    formula: &Formula,
     b: bool,
     low: usize,
     rows: &mut [u64],
     width: usize,
     to: &mut [u16],
-    base: u64,
-    start: u64,
-    from: usize,
+    place: Place,
     out: &mut [u32],
 ) -> Found
-    requires triplets { Triplets (suc n) xs.now count root × Rows low width rows.old × Stretch n width base × (from ≤ length out.old) }
-    requires low_le_n { (low ≤ n) × (2 * triplet_variable (suc connective_ceiling) ≤ length to.old)
-        × ((s : ℕ) → base ≤ s → s < base + 2 ^ n → bit s n ≡ b) }
-    ensures { Walked (root_value (suc n) xs.now count root) start base n low width from out.old result out.new
-        rows.new }
+    requires rows { Rows low width rows.old × Stretch (formula.now.flags - 1) width place.base × (place.from ≤ length out.old) }
+    requires low_lt_flags { (low < formula.now.flags) × (2 * triplet_variable (suc connective_ceiling) ≤ length to.old)
+        × ((s : ℕ) → place.base ≤ s → s < place.base + 2 ^ (formula.now.flags - 1) → bit s (formula.now.flags - 1) ≡ b) }
+    ensures { Walked (value_of formula.now) place.start place.base (formula.now.flags - 1) low width place.from out.old result out.new rows.new }
 {
-    let last = base + ((1 << n) - 1);
-    if last < start {
-        return Found::Done(from);
+    let last = place.base + ((1 << (formula.flags - 1)) - 1);
+    if last < place.start {
+        return Found::Done(place.from);
     }
     let mut ys = [258u16; TRIPLETS_ROOM];
-    let left = fix_first(xs, count, root, n, b, to, &mut ys);
+    let left = fix_first(formula, b, to, &mut ys);
     if left.root == 0 {
-        return Found::Done(from);
+        return Found::Done(place.from);
     }
-    walk(
-        &ys, left.count, left.root, n, low, rows, width, to, base, start, from, out,
-    )
+    walk(&left, low, rows, width, to, place, out)
 }
 
 // Both sides of the first flag, the false one first; where few flags are left, all states at once.
 #[cycle(side_walk)]
 pub fn walk(
-    xs: &[u16],
-    count: usize,
-    root: u16,
-    n: usize,
+    formula: &Formula,
     low: usize,
     rows: &mut [u64],
     width: usize,
     to: &mut [u16],
-    base: u64,
-    start: u64,
-    from: usize,
+    place: Place,
     out: &mut [u32],
 ) -> Found
-    requires triplets { Triplets n xs.now count root × Rows low width rows.old × Stretch n width base × (from ≤ length out.old) }
-    requires low_le_n { (low ≤ n) × (2 * triplet_variable (suc connective_ceiling) ≤ length to.old) }
-    ensures { Walked (root_value n xs.now count root) start base n low width from out.old result out.new
-        rows.new }
+    requires rows { Rows low width rows.old × Stretch formula.now.flags width place.base × (place.from ≤ length out.old) }
+    requires low_le_flags { (low ≤ formula.now.flags) × (2 * triplet_variable (suc connective_ceiling) ≤ length to.old) }
+    ensures { Walked (value_of formula.now) place.start place.base formula.now.flags low width place.from out.old result out.new rows.new }
 {
-    if n == low {
-        return block(xs, count, root, n, rows, width, base, start, from, out);
+    if formula.flags == low {
+        return block(formula, rows, width, place, out);
     }
-    let half = 1 << (n - 1);
-    let found = side(
-        xs,
-        count,
-        root,
-        n - 1,
-        false,
-        low,
-        rows,
-        width,
-        to,
-        base,
-        start,
-        from,
-        out,
-    );
+    let half = 1 << (formula.flags - 1);
+    let found = side(formula, false, low, rows, width, to, place, out);
     let Found::Done(k) = found else {
         return found;
     };
-    side(
-        xs,
-        count,
-        root,
-        n - 1,
-        true,
-        low,
-        rows,
-        width,
-        to,
-        base + half,
-        start,
-        k,
-        out,
-    )
+    let upper = Place {
+        base: place.base + half,
+        from: k,
+        ..place
+    };
+    side(formula, true, low, rows, width, to, upper, out)
 }

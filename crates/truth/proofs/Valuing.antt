@@ -10,7 +10,8 @@ use lib.ListN.{length, set, length-set}
 use lib.Dec.{eqb}
 use lib.Seq.{get_or-set_same, get_or-set_other}
 use Rattle.notation.specs.Ceilings.{connective_ceiling}
-use Rattle.notation.specs.Triplets.{triplet_variable}
+use Rattle.notation.specs.Triplets.{triplet_variable, negation}
+use Rattle.notation.proofs.Shaped.{negation-half}
 use Rattle.notation.specs.clauses.Shape.{kind_at, y_at, z_at}
 use Rattle.ground.proofs.Cases.{split-eq, lt-or-ge}
 use Rattle.ground.specs.Bits.{bit}
@@ -53,6 +54,10 @@ flags-more n s k values after b f h e =
 pub flags-all : (n s k : ℕ) (values after : List Bool) → FlagsSet n s k (set values 0 true) after → FlagsSet n s k values after
 flags-all n s k values after f = record { long = f.long ∙ length-set values 0 true; top = f.top; flags = f.flags }
 
+-- ---- the other sign of the root is named too
+pub triplets-negated : (n : ℕ) (xs : List ℕ) (c r u : ℕ) → Triplets n xs c r → u ≡ negation r → Triplets n xs c u
+triplets-negated n xs c r u t e = record { flags = t.flags; count = t.count; shape = t.shape; named = rw (e, negation-half r) t.named }
+
 -- ---- the triplets
 module _ (n s c root : ℕ) (xs : List ℕ) (t : Triplets n xs c root) where
   pub valued-none : (values after : List Bool) → FlagsSet n s n values after → Valued n s 0 xs (value_in after)
@@ -62,14 +67,14 @@ module _ (n s c root : ℕ) (xs : List ℕ) (t : Triplets n xs c root) where
   pub valued_set : (j x : ℕ) (values : List Bool) (b : Bool) → j < c → Valued n s j xs (value_in values) → x ≡ triplet_variable (suc j)
       → length values ≡ triplet_variable (suc connective_ceiling)
       → b ≡ gate (kind_at xs j) (literal_value (value_in values) (y_at xs j)) (literal_value (value_in values) (z_at xs j))
-      → Valued n s (j + 1) xs (value_in (set values x b)) × (length (set values x b) ≡ triplet_variable (suc connective_ceiling)) × (j + 1 ≤ c)
+      → Valued n s (j + 1) xs (value_in (set values x b))
   valued_set j x values b h old at long e =
       let few = t.count in
       let more : Valued n s (suc j) xs (value_in (set values x b)) =
       valued-more n s c xs t.flags t.shape j (value_in values) (value_in (set values x b)) h old
       (λ u p. set-elsewhere values x u b (λ q. omega arith))
       (rw (← at) (set_here values x b (omega arith) ∙ e)) in
-      (rw add-one more, length-set values x b ∙ long, omega arith)
+      rw add-one more
 
   -- what a triplet and the root name is among as many variables as there may be
   pub operands-known : (j m : ℕ) → j < c → m ≡ triplet_variable (suc connective_ceiling) → (3 * j + 2 < length xs) × (y_at xs j / 2 < m)

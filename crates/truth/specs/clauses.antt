@@ -3,3 +3,4 @@ pub mod Values
 pub mod Words
 pub mod Written
 pub mod OneProof
+pub mod Formulas

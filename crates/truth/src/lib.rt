@@ -1,5 +1,6 @@
 // What a guard means.
 #![tactic(auto)]
 
+pub mod formula;
 pub mod states;
 pub mod values;

@@ -3,13 +3,13 @@ ghost use Rattle.std.specs.Prelude.{◌≡◌, ◌+◌, ◌*◌, ◌/◌, ◌≤
 ghost use Rattle.notation.specs.Ceilings.{flag_ceiling};
 ghost use Rattle.notation.specs.clauses.Shape.{kind_at, y_at, z_at};
 ghost use Rattle.truth.specs.Connectives.{gate};
-ghost use Rattle.truth.specs.clauses.Computed.{literal_value, root_value, Triplets};
+ghost use Rattle.truth.specs.clauses.Computed.{literal_value};
 ghost use Rattle.truth.specs.clauses.Values.{value_in, FlagsSet};
 
-use notation::ceilings::{FLAGS, VARIABLES};
+use crate::states::is_set;
 
 // The value of a literal, where the variables have these values.
-fn literal_value(values: &[bool], literal: u16) -> bool
+pub(crate) fn literal_value(values: &[bool], literal: u16) -> bool
     requires { literal / 2 < length values.now }
     ensures { result ≡ literal_value (value_in values.now) literal }
 {
@@ -31,7 +31,7 @@ fn gate_value(kind: u16, y: bool, z: bool) -> bool
 }
 
 // The value of triplet j, counted from 0, where the variables before it have these values.
-fn triplet_value(values: &[bool], triplets: &[u16], j: usize) -> bool
+pub(crate) fn triplet_value(values: &[bool], triplets: &[u16], j: usize) -> bool
     requires { (3 * j + 2 < length triplets.now) × (y_at triplets.now j / 2 < length values.now) × (z_at triplets.now j / 2 < length values.now) }
     ensures { result ≡ gate (kind_at triplets.now j) (literal_value (value_in values.now) (y_at triplets.now j))
         (literal_value (value_in values.now) (z_at triplets.now j)) }
@@ -42,30 +42,12 @@ fn triplet_value(values: &[bool], triplets: &[u16], j: usize) -> bool
 }
 
 // Sets the values of true and of n flags: the first flag is the highest bit of the state.
-fn set_flags(values: &mut [bool], n: usize, state: u64)
+pub(crate) fn set_flags(values: &mut [bool], n: usize, state: u64)
     requires { (n ≤ flag_ceiling) × (n < length values.old) }
     ensures { FlagsSet n state n values.old values.new }
 {
     values[0] = true;
-    let mut i = 0;
-    while i < n {
-        i += 1;
-        values[i] = (state >> (n - i)) % 2 == 1;
+    for i in 0..n {
+        values[i + 1] = is_set(state, n - (i + 1));
     }
-}
-
-// The value of triplets at their root in a state of n flags.
-pub fn root_value(triplets: &[u16], count: usize, root: u16, n: usize, state: u64) -> bool
-    requires { Triplets n triplets.now count root }
-    ensures { result ≡ root_value n triplets.now count root state }
-{
-    let mut values = [false; VARIABLES];
-    set_flags(&mut values, n, state);
-    let mut j = 0;
-    while j < count {
-        let value = triplet_value(&values, triplets, j);
-        values[FLAGS + 1 + j] = value;
-        j += 1;
-    }
-    literal_value(&values, root)
 }

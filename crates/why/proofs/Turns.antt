@@ -1,5 +1,5 @@
 -- The turn of a flag on the mask, what the search tells of it, and the ways of why.
-use Prim.Native.Nat.{ℕ, zero, suc, ◌+◌, ◌*◌, ◌-◌, ◌/◌, ◌%◌, ◌^◌, ◌≤◌, ◌<◌}
+use Prim.Native.Nat.{ℕ, zero, suc, ◌+◌, ◌*◌, ◌-◌, ◌%◌, ◌^◌, ◌≤◌, ◌<◌}
 use native.Mathlib.Omega.{arith}
 use mathlib.Core.Path.{◌≡◌, refl, sym, ap, ◌∙◌, fun_ext}
 use mathlib.Core.Bool.{Bool, true, false}
@@ -9,23 +9,22 @@ use lib.ListN.{length}
 use lib.Dec.{leb, ltb}
 use lib.Pow.{pow-lt}
 use Rattle.notation.specs.declared.codes.Code.{Code}
-use Rattle.notation.specs.Ceilings.{flag_ceiling, connective_ceiling}
 use Rattle.notation.specs.Triplets.{negation}
 use Rattle.notation.specs.Reading.{refusal, reading}
 use Rattle.notation.specs.declared.refusal.Refusal.{Refusal}
 use Rattle.reading.specs.declared.parse.Guard as counted
 use Rattle.reading.proofs.Serving as serving
 use Rattle.truth.specs.Value.{value}
-use Rattle.truth.specs.clauses.Computed.{root_value, Triplets}
+use Rattle.truth.specs.declared.formula.Formula.{Formula}
+use Rattle.truth.specs.clauses.Computed.{root_value}
+use Rattle.truth.specs.clauses.Formulas.{value_of}
 use Rattle.truth.specs.clauses.Words.{word_bits}
-use Rattle.truth.proofs.Computing.{named-below}
 use Rattle.truth.proofs.Written.{written-value}
 use Rattle.read_truth.proofs.Begun.{read_flags, read-begins}
 use Rattle.gaps.specs.Gaps.{false_from}
 use Rattle.gaps.specs.clauses.Rows.{Writes}
 use Rattle.gaps.specs.declared.writing.Found.{Found}
 use Rattle.freeing.specs.clauses.Some.{keeps, FixedSome}
-use Rattle.freeing.proofs.Freeing.{free-below}
 use Rattle.why.specs.Numbered.{state_with}
 use Rattle.why.specs.Kept.{Forces, every, without, Went}
 use Rattle.why.specs.clauses.Keeping.{none_found, Decides, Turned, Keeping}
@@ -39,35 +38,17 @@ use Rattle.why.proofs.Forcing.{none-where-room, forced-decides}
 pub shifted : (n : ℕ) → n < word_bits → 1 * 2 ^ n % 18446744073709551616 ≡ 2 ^ n
 shifted n h = let l : 2 ^ n < 2 ^ 64 = pow-lt h in omega (arith, l)
 
--- a search with no room tells whether the kept flags force a gap
-module _ (n keep gap : ℕ) (xs : List ℕ) (count root : ℕ) (ys : List ℕ) (m c r u : ℕ) (few : n ≤ flag_ceiling) (small : count ≤ connective_ceiling)
-    (w : FixedSome n keep gap xs count root ys m c r) where
-  pub free-small : m ≤ flag_ceiling
-  free-small = let f : m ≤ n = rw w.flags (free-below (keeps n keep) n) in omega (arith, f, few)
-
-  pub root-small : r + 1 < 65536
-  root-small = omega (arith, named-below m c r free-small w.named, w.few, small)
-
-  pub searchable : u / 2 ≡ r / 2 → 3 * connective_ceiling ≤ length ys → Triplets m ys c u × (0 ≤ 2 ^ m)
-  searchable e h = (
-    record {
-      flags = free-small;
-      count = (omega (arith, w.few, small), omega (arith, w.few, small, h));
-      shape = w.shape;
-      named = rw e w.named;
-    },
-    omega arith,
-  )
-
-  pub forced-says : u ≡ negation r → (out after : List ℕ) (b : Bool) (t : Found) → length out ≡ 0
-      → Writes out 0 (false_from (root_value m ys c u) 0 (2 ^ m - 0)) t after → b ≡ none_found t
-      → Decides b (Forces n (root_value n xs count root) gap (keeps n keep))
-  forced-says e out after b t z p q =
-      let l : List ℕ = false_from (root_value m ys c u) 0 (2 ^ m - 0) in
-      let same : b ≡ leb (length (false_from (root_value m ys c u) 0 (2 ^ m - 0))) (length out) = q ∙ ap none_found p.answers
-      ∙ none-where-room (false_from (root_value m ys c u) 0 (2 ^ m - 0)) (length out) in
-      let told : b ≡ leb (length (false_from (root_value m ys c (negation r)) 0 (2 ^ m - 0))) 0 = rw (z, e) at same in
-      forced-decides n keep gap xs count root ys m c r w b told
+-- a search with no room, at the other sign of what is left, tells whether the kept flags force a gap
+pub forced-says : (n keep gap : ℕ) (xs : List ℕ) (count root : ℕ) (ys : List ℕ) (m c r : ℕ) → FixedSome n keep gap xs count root ys m c r
+    → (f : Formula) → f.triplets.now ≡ ys → f.count ≡ c → f.root ≡ negation r → f.flags ≡ m
+    → (out after : List ℕ) (b : Bool) (t : Found) → length out ≡ 0
+    → Writes out 0 (false_from (value_of f) 0 (2 ^ f.flags - 0)) t after → b ≡ none_found t
+    → Decides b (Forces n (root_value n xs count root) gap (keeps n keep))
+forced-says n keep gap xs count root ys m c r w f et ec er ef out after b t z p q =
+    let same : b ≡ leb (length (false_from (value_of f) 0 (2 ^ f.flags - 0))) (length out) = q ∙ ap none_found p.answers
+    ∙ none-where-room (false_from (value_of f) 0 (2 ^ f.flags - 0)) (length out) in
+    let told : b ≡ leb (length (false_from (root_value m ys c (negation r)) 0 (2 ^ m - 0))) 0 = rw (z, et, ec, er, ef) at same in
+    forced-decides n keep gap xs count root ys m c r w b told
 
 -- one turn
 pub turn-dropped : (n : ℕ) (v : ℕ → Bool) (gap keep place e : ℕ) (b : Bool) → e ≡ 2 ^ place → b ≡ true

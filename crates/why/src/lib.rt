@@ -3,7 +3,7 @@
 
 ghost use Rattle.std.specs.Prelude.{◌≡◌, ◌^◌, ◌≤◌, ◌<◌};
 ghost use Rattle.notation.specs.Reading.{reading};
-ghost use Rattle.truth.specs.clauses.Computed.{root_value, Triplets};
+ghost use Rattle.truth.specs.clauses.Formulas.{value_of};
 ghost use Rattle.truth.specs.clauses.Words.{word_bits};
 ghost use Rattle.freeing.specs.clauses.Some.{keeps};
 ghost use Rattle.why.specs.Kept.{Forces};
@@ -11,15 +11,14 @@ ghost use Rattle.why.specs.Explained.{Explains};
 ghost use Rattle.why.specs.clauses.Keeping.{none_found, Decides, Turned, Keeping};
 
 use freeing::some::fix_some;
-use freeing::triplet::negated;
 use gaps::writing::Found;
 use notation::ceilings::{FLAGS, TRIPLETS_ROOM, VARIABLES};
 use notation::codes::Code;
 use notation::refusal::{Refusal, fault};
 use reading::parse::parse;
 use search::search;
+use truth::formula::Formula;
 use truth::states::is_state;
-use truth::values::root_value;
 
 // Both signs of each variable.
 const LITERALS: usize = 2 * VARIABLES;
@@ -37,43 +36,39 @@ fn is_none(found: Found) -> bool
     }
 }
 
-// Whether the triplets are false in every state that agrees with `state` on the flags of `keep`: what is left of them with
-// these flags fixed is searched for a true state, with no room, so that the search ends at the first.
-fn forced(xs: &[u16], count: usize, root: u16, n: usize, keep: u64, state: u64) -> bool
-    requires { Triplets n xs.now count root }
-    ensures { Decides result (Forces n (root_value n xs.now count root) state (keeps n keep)) }
+// Whether the formula is false in every state that agrees with `state` on the flags of `keep`: what is left of it with these
+// flags fixed is searched for a true state, with no room, so that the search ends at the first.
+fn forced(formula: &Formula, keep: u64, state: u64) -> bool
+    ensures { Decides result (Forces formula.now.flags (value_of formula.now) state (keeps formula.now.flags keep)) }
 {
     let mut to = [258u16; LITERALS];
     let mut ys = [258u16; TRIPLETS_ROOM];
-    let freed = fix_some(xs, count, root, n, keep, state, &mut to, &mut ys);
-    let turned = negated(freed.root);
+    let freed = fix_some(formula, keep, state, &mut to, &mut ys);
+    let turned = freed.negated();
     let mut room = [0u32; 0];
-    let found = search(&ys, freed.count, turned, freed.flags, 0, &mut room);
+    let found = search(&turned, 0, &mut room);
     is_none(found)
 }
 
 // The turn of the flag at a place of the mask: it is dropped where the others still kept force a gap.
-fn turn(xs: &[u16], count: usize, root: u16, n: usize, state: u64, keep: u64, place: usize) -> u64
-    requires { Triplets n xs.now count root × (place < word_bits) × (2 ^ place ≤ keep) }
-    ensures { Turned n (root_value n xs.now count root) state keep place result }
+fn turn(formula: &Formula, state: u64, keep: u64, place: usize) -> u64
+    requires { (place < word_bits) × (2 ^ place ≤ keep) }
+    ensures { Turned formula.now.flags (value_of formula.now) state keep place result }
 {
     let less = keep - (1 << place);
-    if forced(xs, count, root, n, less, state) {
+    if forced(formula, less, state) {
         return less;
     }
     keep
 }
 
 // The flags kept of a gap: gone through in order.
-fn kept_flags(xs: &[u16], count: usize, root: u16, n: usize, state: u64) -> u64
-    requires { Triplets n xs.now count root }
-    ensures { Keeping n (root_value n xs.now count root) state n result }
+fn kept_flags(formula: &Formula, state: u64) -> u64
+    ensures { Keeping formula.now.flags (value_of formula.now) state formula.now.flags result }
 {
-    let mut keep = (1 << n) - 1;
-    let mut i = 0;
-    while i < n {
-        keep = turn(xs, count, root, n, state, keep, n - (i + 1));
-        i += 1;
+    let mut keep = (1 << formula.flags) - 1;
+    for i in 0..formula.flags {
+        keep = turn(formula, state, keep, formula.flags - (i + 1));
     }
     keep
 }
@@ -89,9 +84,15 @@ pub fn why(text: &[u8], state: u64) -> Result<u64, Refusal>
     if !is_state(state, guard.flags) {
         return Err(fault(9, 0));
     }
-    if root_value(&triplets, guard.count, guard.root, guard.flags, state) {
+    let formula = Formula {
+        triplets: &triplets,
+        count: guard.count,
+        root: guard.root,
+        flags: guard.flags,
+    };
+    if formula.value(state) {
         return Err(fault(16, 0));
     }
-    let keep = kept_flags(&triplets, guard.count, guard.root, guard.flags, state);
+    let keep = kept_flags(&formula, state);
     Ok(keep)
 }

@@ -1,10 +1,6 @@
 -- `fixing::start` meets its contract: four stores, and then the flags below l are one less.
-use Prim.Native.Nat.{◌+◌, ◌*◌, ◌-◌, ◌≤◌}
 use Rattle.fixing.specs.clauses.Fixing.{StartedBy}
 use Rattle.fixing.proofs.start.Given as goal
 
 abbrev pub invariant-loop-l : goal.invariant-loop-l
-invariant-loop-l l = StartedBy l.b l.initial.to l.to l.l × (4 ≤ l.l) × (l.l ≤ 2 * l.n + 4)
-
-abbrev pub decreases-loop-l : goal.decreases-loop-l
-decreases-loop-l l = 2 * l.n + 4 - l.l
+invariant-loop-l l = StartedBy l.b l.initial.to l.to l.l

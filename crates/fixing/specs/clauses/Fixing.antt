@@ -16,14 +16,6 @@ pub record Stands (kind y z r : ℕ) : Type 0 where
 abbrev pub Simplified : ℕ → ℕ → ℕ → ℕ → ℕ → Type 0
 Simplified kind y z x r = (r ≡ x) ⊎ Stands kind y z r
 
--- the first j triplets of xs over n + 1 flags, with the first flag b, became the c triplets of ys over n flags:
--- f l is what became of the literal l, and has its value in every state whose bit n is b
-pub record Fixing (n : ℕ) (b : Bool) (xs : List ℕ) (j : ℕ) (f : ℕ → ℕ) (c : ℕ) (ys : List ℕ) : Type 0 where
-  pub few : c ≤ j
-  pub shape : Shape n c ys
-  pub named : (l : ℕ) → Names (suc n) j l → Names n c (f l)
-  pub valued : (s l : ℕ) → bit s n ≡ b → Names (suc n) j l → literal_value (computed n s ys c) (f l) ≡ literal_value (computed (suc n) s xs j) l
-
 -- the c triplets of ys, at the literal r, have the value of the triplets of xs at the root, in every state whose bit n is b
 pub record Fixed (n : ℕ) (b : Bool) (xs : List ℕ) (count root : ℕ) (ys : List ℕ) (c r : ℕ) : Type 0 where
   pub few : c ≤ count

@@ -1,10 +1,6 @@
 -- `rows::flag_rows` meets its contract: the rows of true and of the first i flags are made.
-use Prim.Native.Nat.{◌-◌, ◌≤◌}
 use Rattle.rows.proofs.Flags.{FirstFlags}
 use Rattle.rows.proofs.flag_rows.Given as goal
 
 abbrev pub invariant-loop-i : goal.invariant-loop-i
-invariant-loop-i l = FirstFlags l.n l.width l.i l.initial.rows l.rows × (l.i ≤ l.n)
-
-abbrev pub decreases-loop-i : goal.decreases-loop-i
-decreases-loop-i l = l.n - l.i
+invariant-loop-i l = FirstFlags l.n l.width l.i l.initial.rows l.rows

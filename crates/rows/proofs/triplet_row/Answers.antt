@@ -2,6 +2,8 @@
 use Prim.Native.Nat.{ℕ, suc, ◌+◌, ◌*◌, ◌≤◌, ◌<◌}
 use mathlib.Core.Path.{◌≡◌, ap}
 use native.Mathlib.Omega.{arith}
+use borrow.Author.Rules.{rules}
+use Rattle.rows.proofs.RowsMade.{row-as}
 use Rattle.notation.specs.Ceilings.{flag_ceiling}
 use Rattle.notation.specs.Triplets.{triplet_variable}
 use Rattle.rows.proofs.Gates.{rows_apart, or-made, xor-made}
@@ -17,14 +19,16 @@ before j v width h = rows_apart v (flag_ceiling + 1 + j) width (omega arith)
 within : (j width n : ℕ) → triplet_variable (suc (suc j)) * width ≤ n → (flag_ceiling + 1 + j) * width + width ≤ n
 within j width n h = omega arith
 
-pub or_row-requires : goal.or_row-requires
-or_row-requires c =
+pub join_rows-requires-clause-within : goal.join_rows-requires-clause-within
+join_rows-requires-clause-within c =
     (before c.args.j _ c.args.width c.requires.2, before c.args.j _ c.args.width c.requires.3, within c.args.j c.args.width _ c.requires.4)
 
 pub returns-then-xs-j-eq0 : goal.returns-then-xs-j-eq0
 returns-then-xs-j-eq0 c =
-    or-made _ _ _ _ _ _ _ _ (own c.args.j c.args.width) c.turn.ensures c.turn-then-xs-j-eq0.ensures c.if-xs-j-eq0.true c.or_row.ensures
+    or-made _ _ _ _ _ _ _ _ (own c.args.j c.args.width) c.turn-ty.ensures c.turn-tz.ensures c.if-xs-j-eq0.true
+    (row-as _ _ _ _ _ _ c.join_rows.ensures (λ w r h e. search rules))
 
 pub returns-else-xs-j-eq0 : goal.returns-else-xs-j-eq0
 returns-else-xs-j-eq0 c =
-    xor-made _ _ _ _ _ _ _ _ (own c.args.j c.args.width) c.turn-else-xs-j-eq0.ensures c.turn-else-xs-j-eq0-2.ensures c.if-xs-j-eq0.false c.xor_row.ensures
+    xor-made _ _ _ _ _ _ _ _ (own c.args.j c.args.width) c.turn-ty.ensures c.turn-tz.ensures c.if-xs-j-eq0.false
+    (row-as _ _ _ _ _ _ c.join_rows-else-xs-j-eq0.ensures (λ w r h e. search rules))

@@ -8,14 +8,13 @@ use Rattle.search.proofs.Walks.{searched, stretch-all, rows_all, shifted, words-
 use Rattle.search.proofs.at_once.Goals as goal
 
 pub block-requires : goal.block-requires
-block-requires c =
-    let e = shifted c.args.more (omega arith) in (
-      c.requires.triplets.0,
-      rows_all _ (word_flags + c.args.more) _ _ _ c.requires.triplets.1 (omega (arith, words-hold c.args.more)) (omega arith) c.flag_rows.ensures,
-      stretch-all _ _ c.requires.triplets.0.flags (omega (arith, pow_mono {i = c.args.more} {j = widest} c.requires.more_le_widest.0)),
+block-requires g c =
+    let e = shifted g.row.MORE (omega arith) in (
+      rows_all _ (word_flags + g.row.MORE) _ _ _ c.requires.within.0 (omega (arith, words-hold g.row.MORE)) (omega arith) c.flag_rows.ensures,
+      stretch-all _ _ c.args.formula.now.proper.flags (omega (arith, pow_mono {i = g.row.MORE} {j = widest} c.requires.room.0)),
       omega arith,
     )
 
 pub returns : goal.returns
-returns c =
-    searched _ _ _ _ _ _ _ _ _ c.requires.triplets.2 c.block.ensures
+returns g c =
+    searched _ _ _ _ _ _ _ _ _ c.requires.within.1 c.block.ensures

@@ -6,19 +6,13 @@ use Rattle.search.specs.clauses.Walking.{widest}
 use Rattle.search.proofs.Walks.{searched, stretch-all, rows_all}
 use Rattle.search.proofs.wide.Goals as goal
 
-pub walk-requires : goal.walk-requires
-walk-requires c =
-    record {
-      triplets = (
-        c.requires.0,
-        rows_all _ (word_flags + widest) _ _ _ c.requires.1 (omega arith) (omega arith) c.flag_rows.ensures,
-        stretch-all _ _ c.requires.0.flags
-            (omega arith),
-        omega arith,
-      );
-      low_le_n = (c.requires.2, omega arith);
-    }
+pub walk-requires-clause-rows : goal.walk-requires-clause-rows
+walk-requires-clause-rows c = (
+  rows_all _ (word_flags + widest) _ _ _ (omega (arith, c.min-low.ensures)) (omega arith) (omega arith) c.flag_rows.ensures,
+  stretch-all _ _ c.args.formula.now.proper.flags (omega arith),
+  omega arith,
+)
 
 pub returns : goal.returns
 returns c =
-    searched _ _ _ _ _ _ _ _ _ c.requires.3 c.walk.ensures
+    searched _ _ _ _ _ _ _ _ _ c.requires c.walk.ensures

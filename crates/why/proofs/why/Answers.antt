@@ -15,28 +15,22 @@ returns-in_err-guard c =
     rw (p.1, p.2) (explains-refusal c.args.text.now c.args.state f
     (refusal-found c.args.text.now (reading c.args.text.now) c.parse.result c.parse.new.codes c.parse.new.out c.parse.ensures f c.in_err-guard.was))
 
-pub root_value-requires : goal.root_value-requires
-root_value-requires c =
+pub invariant_of-formula : goal.invariant_of-formula
+invariant_of-formula c =
     let f = guard-found c.args.text.now (reading c.args.text.now) c.parse.result c.parse.new.codes c.parse.new.out
-    c.parse.ensures c.in_ok-guard.guard c.in_ok-guard.was in read-triplets c.args.text.now c.in_ok-guard.guard
-    c.parse.new.codes c.parse.new.out f (search rules)
+    c.parse.ensures c.in_ok-guard.guard c.in_ok-guard.was in
+    record { proper = read-triplets c.args.text.now c.in_ok-guard.guard c.parse.new.codes c.parse.new.out f (search rules) }
 
-pub returns-then-root_value : goal.returns-then-root_value
-returns-then-root_value c =
+pub returns-then-value : goal.returns-then-value
+returns-then-value c =
     let f = guard-found c.args.text.now (reading c.args.text.now) c.parse.result c.parse.new.codes c.parse.new.out
     c.parse.ensures c.in_ok-guard.guard c.in_ok-guard.was in explains-no-gap c.args.text.now c.args.state c.in_ok-guard.guard
     c.parse.new.codes c.parse.new.out f (sym c.is_state.ensures ∙ c.if-not-is_state.false)
-    (sym c.root_value.ensures ∙ c.if-root_value.true) c.fault-then-root_value.result c.fault-then-root_value.ensures
-
-pub kept_flags-keep-requires : goal.kept_flags-keep-requires
-kept_flags-keep-requires c =
-    let f = guard-found c.args.text.now (reading c.args.text.now) c.parse.result c.parse.new.codes c.parse.new.out
-    c.parse.ensures c.in_ok-guard.guard c.in_ok-guard.was in read-triplets c.args.text.now c.in_ok-guard.guard
-    c.parse.new.codes c.parse.new.out f (search rules)
+    (sym c.value.ensures ∙ c.if-value.true) c.fault-then-value.result c.fault-then-value.ensures
 
 pub returns : goal.returns
 returns c =
     let f = guard-found c.args.text.now (reading c.args.text.now) c.parse.result c.parse.new.codes c.parse.new.out
     c.parse.ensures c.in_ok-guard.guard c.in_ok-guard.was in explains-kept c.args.text.now c.args.state c.in_ok-guard.guard
     c.parse.new.codes c.parse.new.out f (sym c.is_state.ensures ∙ c.if-not-is_state.false)
-    (sym c.root_value.ensures ∙ c.if-root_value.false) c.kept_flags-keep.result c.kept_flags-keep.ensures
+    (sym c.value.ensures ∙ c.if-value.false) c.kept_flags-keep.result c.kept_flags-keep.ensures

@@ -3,20 +3,14 @@ use native.Mathlib.Omega.{arith}
 use Rattle.freeing.proofs.Freeing.{table-some, free-few, fixed-some}
 use Rattle.freeing.proofs.some.fix_some.Goals as goal
 
-pub fold-left-requires : goal.fold-left-requires
-fold-left-requires c =
-    record {
-      less_le_n = (
-        free-few _ _ _ _ _ _ c.start_some-flags.ensures,
-        c.requires.n_le_flag_ceiling.0,
-        c.requires.n_le_flag_ceiling.1,
-        c.requires.n_le_flag_ceiling.2,
-        omega arith,
-        c.requires.n_le_flag_ceiling.4,
-      );
-      shape = (c.requires.shape.0, c.requires.shape.1, table-some _ _ _ _ _ _ c.start_some-flags.ensures);
-    }
+pub fold-requires-clause-long : goal.fold-requires-clause-long
+fold-requires-clause-long c =
+    (free-few _ _ _ _ _ _ c.start_some-free.ensures, omega (arith, c.requires.0, c.start_some-free.ensures.long), c.requires.1)
+
+pub fold-requires-clause-table : goal.fold-requires-clause-table
+fold-requires-clause-table c =
+    table-some _ _ _ _ _ _ c.start_some-free.ensures
 
 pub returns : goal.returns
 returns c =
-    fixed-some _ _ _ _ _ _ c.start_some-flags.ensures _ _ _ _ _ _ c.fold-left.ensures
+    rw c.fold.ensures.flags (fixed-some _ _ _ _ _ _ c.start_some-free.ensures _ _ _ _ _ _ c.fold.ensures.folded)

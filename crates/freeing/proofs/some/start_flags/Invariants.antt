@@ -1,10 +1,6 @@
 -- `freeing::some::start_flags` meets its contract: the first i flags became their literals.
-use Prim.Native.Nat.{◌-◌, ◌≤◌}
 use Rattle.freeing.specs.clauses.Some.{Begun}
 use Rattle.freeing.proofs.some.start_flags.Given as goal
 
 abbrev pub invariant-loop-i : goal.invariant-loop-i
-invariant-loop-i l = Begun l.n l.keep l.state l.i l.initial.to l.to l.free × (l.i ≤ l.n)
-
-abbrev pub decreases-loop-i : goal.decreases-loop-i
-decreases-loop-i l = l.n - l.i
+invariant-loop-i l = Begun l.n l.keep l.state l.i l.initial.to l.to l.free

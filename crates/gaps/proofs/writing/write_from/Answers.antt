@@ -8,12 +8,12 @@ use Rattle.gaps.proofs.writing.write_from.Goals as goal
 
 pub returns-then-start-base : goal.returns-then-start-base
 returns-then-start-base c =
-    rw (since-whole c.args.start (marked c.args.word c.args.base) c.args.base word_bits c.if-start-base.true) c.write_word.ensures
+    rw (since-whole c.args.place.start (marked c.args.word c.args.place.base) c.args.place.base word_bits c.if-start-base.true) c.write_word.ensures
 
 pub returns-then-k-ge-WORD_BITS : goal.returns-then-k-ge-WORD_BITS
 returns-then-k-ge-WORD_BITS c =
-    rw (since_none c.args.start (marked c.args.word c.args.base) c.args.base word_bits (omega arith)) (writes-none _ _ c.requires.0)
+    rw (since_none c.args.place.start (marked c.args.word c.args.place.base) c.args.place.base word_bits (omega arith)) (writes-none _ _ c.requires.0)
 
 pub returns : goal.returns
 returns c =
-    rw (since-cut c.args.start c.args.word c.args.base c.ranges.word.fits c.if-start-base.false c.if-k-ge-WORD_BITS.false) c.write_word-2.ensures
+    rw (since-cut c.args.place.start c.args.word c.args.place.base c.ranges.word.fits c.if-start-base.false c.if-k-ge-WORD_BITS.false) c.write_word-2.ensures

@@ -1,9 +1,0 @@
--- `freeing::some::is_set` meets its contract.
-use mathlib.Core.Path.{refl}
-use Rattle.ground.specs.Bits.{bit}
-use Rattle.freeing.proofs.some.is_set.Goals as goal
-
-pub returns : goal.returns
-unfolding bit
-returns c =
-    refl
