@@ -9,8 +9,8 @@ use notation::ceilings::{FLAGS, TRIPLETS_ROOM};
 use notation::codes::Code;
 use notation::refusal::Refusal;
 use reading::parse::parse;
+use truth::formula::Formula;
 use truth::states::is_state;
-use truth::values::root_value;
 
 // The value of the guard of a text in a state, or why the text or the state is refused.
 pub fn evaluate(text: &[u8], state: u64) -> Result<bool, Refusal>
@@ -25,6 +25,12 @@ pub fn evaluate(text: &[u8], state: u64) -> Result<bool, Refusal>
             place: 0,
         });
     }
-    let value = root_value(&triplets, guard.count, guard.root, guard.flags, state);
+    let formula = Formula {
+        triplets: &triplets,
+        count: guard.count,
+        root: guard.root,
+        flags: guard.flags,
+    };
+    let value = formula.value(state);
     Ok(value)
 }

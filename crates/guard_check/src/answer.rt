@@ -6,6 +6,7 @@ use crate::decide::decide;
 use gaps::writing::Found;
 use saturation::verdict::Verdict;
 use search::search;
+use truth::formula::Formula;
 
 // No gap is covered.
 fn verdict_of(found: Found) -> Verdict
@@ -18,22 +19,22 @@ fn verdict_of(found: Found) -> Verdict
 }
 
 // The first gap of the list. Nothing is to be written, so that the search ends where it finds one.
-fn by_tables(triplets: &[u16], count: usize, flags: usize, root: u16) -> Verdict
-    requires { FromGuard triplets.now count flags root }
-    ensures { FullyDecided triplets.now count flags root result }
+fn by_tables(formula: &Formula) -> Verdict
+    requires { FromGuard formula.now.triplets.now formula.now.count formula.now.flags formula.now.root }
+    ensures { FullyDecided formula.now.triplets.now formula.now.count formula.now.flags formula.now.root result }
 {
     let mut none = [0u32; 1];
-    let found = search(triplets, count, root, flags, 0, &mut none[0..0]);
+    let found = search(formula, 0, &mut none[0..0]);
     verdict_of(found)
 }
 
 // At a depth not below the number of flags the first gap is the answer, and no such depth costs more than the list does.
-pub fn answer(triplets: &[u16], count: usize, flags: usize, root: u16, depth: u64) -> Verdict
-    requires { FromGuard triplets.now count flags root }
-    ensures { Decided triplets.now count flags root depth result }
+pub fn answer(formula: &Formula, depth: u64) -> Verdict
+    requires { FromGuard formula.now.triplets.now formula.now.count formula.now.flags formula.now.root }
+    ensures { Decided formula.now.triplets.now formula.now.count formula.now.flags formula.now.root depth result }
 {
-    if flags as u64 <= depth {
-        return by_tables(triplets, count, flags, root);
+    if formula.flags as u64 <= depth {
+        return by_tables(formula);
     }
-    decide(triplets, count, flags, root, depth)
+    decide(formula, depth)
 }

@@ -7,6 +7,7 @@ use notation::codes::Code;
 use notation::refusal::Refusal;
 use reading::parse::parse;
 use saturation::verdict::Verdict;
+use truth::formula::Formula;
 
 // The ceiling of the depth.
 pub const DEPTH: u64 = 24;
@@ -30,6 +31,12 @@ pub fn check(text: &[u8], depth: u64) -> Result<Verdict, Refusal>
     let mut codes = [Code::NONE; FLAGS];
     let mut triplets = [0u16; TRIPLETS_ROOM];
     let guard = parse(text, &mut codes, &mut triplets)?;
-    let verdict = answer(&triplets, guard.count, guard.flags, guard.root, depth);
+    let formula = Formula {
+        triplets: &triplets,
+        count: guard.count,
+        root: guard.root,
+        flags: guard.flags,
+    };
+    let verdict = answer(&formula, depth);
     Ok(verdict)
 }

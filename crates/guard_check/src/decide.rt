@@ -1,6 +1,5 @@
 // The answer for triplets, by saturation and the trial of flags.
 ghost use Rattle.std.specs.Prelude.{◌≡◌};
-ghost use Rattle.truth.specs.clauses.Computed.{Triplets};
 ghost use Rattle.relation.specs.clauses.Classes.{kept};
 ghost use Rattle.steps.specs.clauses.Resting.{in_use, triplets_at};
 ghost use Rattle.saturation.specs.Saturation.{Stable, Flags};
@@ -10,6 +9,7 @@ use relation::classes::{Relation, turned};
 use saturation::saturate::Saturator;
 use saturation::verdict::Verdict;
 use steps::rest::FIRST;
+use truth::formula::Formula;
 
 // Fixes a flag: to 0, or to 1 where 0 is contradictory, and saturates. Answers the value. A flag that is tied has it already.
 fn test(saturator: &Saturator, relation: &mut Relation, flag: usize, depth: u64) -> u64
@@ -39,23 +39,22 @@ fn test(saturator: &Saturator, relation: &mut Relation, flag: usize, depth: u64)
 }
 
 // Starts from "root = false", saturated; then tries the flags in order.
-pub fn decide(triplets: &[u16], count: usize, flags: usize, root: u16, depth: u64) -> Verdict
-    requires { Triplets flags triplets.now count root }
-    ensures { Decided triplets.now count flags root depth result }
+pub fn decide(formula: &Formula, depth: u64) -> Verdict
+    ensures { Decided formula.now.triplets.now formula.now.count formula.now.flags formula.now.root depth result }
 {
     let saturator = Saturator {
-        triplets,
-        count,
-        flags,
+        triplets: formula.triplets,
+        count: formula.count,
+        flags: formula.flags,
     };
-    let mut relation = Relation::fresh().over(FIRST + count);
-    relation.join(turned(root, 1), 0);
+    let mut relation = Relation::fresh().over(FIRST + formula.count);
+    relation.join(turned(formula.root, 1), 0);
     saturator.saturate(&mut relation, depth);
     if relation.is_contradictory() {
         return Verdict::Covered;
     }
     let mut state: u64 = 0;
-    for done in 0..flags {
+    for done in 0..formula.flags {
         let bit = test(&saturator, &mut relation, done + 1, depth);
         state = 2 * state + bit;
     }

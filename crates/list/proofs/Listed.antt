@@ -22,6 +22,10 @@ use Rattle.gaps.specs.clauses.Rows.{Writes}
 use Rattle.list.specs.Listed.{listed, filled, Lists}
 use Rattle.list.proofs.OfGuard.{guard-gaps}
 
+-- the search may be asked from a state on
+pub lists-searchable : (start n : ℕ) → ltb start (2 ^ n) ≡ true → start ≤ 2 ^ n
+lists-searchable start n h = let soon : start < 2 ^ n = ltb-true start (2 ^ n) h in omega arith
+
 module _ (text : List ℕ) (start : ℕ) (out : List ℕ) where
   pub lists-refusal : (f : Refusal) → reading text ≡ refusal f.number f.place → Lists text start out (Err f) out
   unfolding listed filled
@@ -33,13 +37,6 @@ module _ (text : List ℕ) (start : ℕ) (out : List ℕ) where
     lists-no-state h =
         let late : ltb start (2 ^ length f.flags) ≡ false = rw (read_flags text x codes xs f) at h in
         record { answers = rw (f.says, late) refl; holds = rw (f.says, late) refl }
-
-    -- the search may be asked
-    pub lists-searchable : length xs ≡ 3 * connective_ceiling → ltb start (2 ^ x.flags) ≡ true
-        → Triplets x.flags xs x.count x.root × (start ≤ 2 ^ x.flags)
-    lists-searchable long h =
-        let soon : start < 2 ^ x.flags = ltb-true start (2 ^ x.flags) h in
-        (read-triplets text x codes xs f long, omega arith)
 
     pub lists-gaps : ltb start (2 ^ x.flags) ≡ true → (r : Found) (after : List ℕ)
         → Writes out 0 (false_from (root_value x.flags xs x.count x.root) start (2 ^ x.flags - start)) r after → Lists text start out (Ok r) after

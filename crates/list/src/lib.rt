@@ -9,6 +9,7 @@ use notation::codes::Code;
 use notation::refusal::Refusal;
 use reading::parse::parse;
 use search::search;
+use truth::formula::Formula;
 use truth::states::is_state;
 
 // Writes the gaps of a text from `start` on, ascending, as many as there is room for; or tells why the text or the start is refused.
@@ -24,6 +25,12 @@ pub fn list(text: &[u8], start: u64, out: &mut [u32]) -> Result<Found, Refusal>
             place: 0,
         });
     }
-    let found = search(&triplets, guard.count, guard.root, guard.flags, start, out);
+    let formula = Formula {
+        triplets: &triplets,
+        count: guard.count,
+        root: guard.root,
+        flags: guard.flags,
+    };
+    let found = search(&formula, start, out);
     Ok(found)
 }

@@ -8,6 +8,7 @@ use guard_check::answer::answer;
 use notation::ceilings::TRIPLETS_ROOM;
 use questions::{SPANS_ROOM, lay_pair, lay_whole};
 use saturation::verdict::Verdict;
+use truth::formula::Formula;
 
 // Whether an answer is any other than covered.
 fn is_open(verdict: Verdict) -> bool
@@ -31,7 +32,13 @@ pub fn ask_whole(
         × Rooms pool.now spans.now out.new }
 {
     let built = lay_whole(pool, spans, variants, out);
-    answer(&*out, built.count, flags, built.root, depth)
+    let formula = Formula {
+        triplets: &*out,
+        count: built.count,
+        root: built.root,
+        flags,
+    };
+    answer(&formula, depth)
 }
 
 // Whether the variants i and j exclude each other.
@@ -52,7 +59,13 @@ fn ask_pair(
         × Rooms pool.now spans.now out.new }
 {
     let built = lay_pair(pool, spans, i, j, out);
-    answer(&*out, built.count, flags, built.root, depth)
+    let formula = Formula {
+        triplets: &*out,
+        count: built.count,
+        root: built.root,
+        flags,
+    };
+    answer(&formula, depth)
 }
 
 // The first variant after variant i that does not exclude it.

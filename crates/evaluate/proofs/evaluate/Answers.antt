@@ -23,15 +23,15 @@ returns-then-not-is_state c =
     evaluates-no-state c.args.text.now c.args.state c.in_ok-guard.guard c.parse.new.codes c.parse.new.out f
     (sym c.is_state.ensures ∙ c.if-not-is_state.true)
 
-pub root_value-value-requires : goal.root_value-value-requires
-root_value-value-requires c =
+pub invariant_of-formula : goal.invariant_of-formula
+invariant_of-formula c =
     let f = guard-found c.args.text.now (reading c.args.text.now) c.parse.result c.parse.new.codes c.parse.new.out
     c.parse.ensures c.in_ok-guard.guard c.in_ok-guard.was in
-    read-triplets c.args.text.now c.in_ok-guard.guard c.parse.new.codes c.parse.new.out f (search rules)
+    record { proper = read-triplets c.args.text.now c.in_ok-guard.guard c.parse.new.codes c.parse.new.out f (search rules) }
 
 pub returns : goal.returns
 returns c =
     let f = guard-found c.args.text.now (reading c.args.text.now) c.parse.result c.parse.new.codes c.parse.new.out
     c.parse.ensures c.in_ok-guard.guard c.in_ok-guard.was in
     evaluates-value c.args.text.now c.args.state c.in_ok-guard.guard c.parse.new.codes c.parse.new.out f
-    (sym c.is_state.ensures ∙ c.if-not-is_state.false) c.root_value-value.result c.root_value-value.ensures
+    (sym c.is_state.ensures ∙ c.if-not-is_state.false) c.value-value.result c.value-value.ensures

@@ -3,6 +3,7 @@ use mathlib.Core.Path.{sym, ◌∙◌}
 use Rattle.std.proofs.lemmas.Result.{err_from_is_err_and}
 use Rattle.notation.specs.Reading.{reading}
 use Rattle.reading.proofs.Serving.{guard-found, refusal-found}
+use Rattle.read_truth.proofs.Begun.{read-triplets}
 use Rattle.list.proofs.Listed.{lists-refusal, lists-no-state, lists-searchable, lists-gaps}
 use borrow.Author.Rules.{rules}
 use Rattle.list.proofs.list.Goals as goal
@@ -22,12 +23,15 @@ returns-then-not-is_state c =
     lists-no-state c.args.text.now c.args.start c.args.out.now c.in_ok-guard.guard c.parse.new.codes c.parse.new.out f
     (sym c.is_state.ensures ∙ c.if-not-is_state.true)
 
-pub search-found-requires : goal.search-found-requires
-search-found-requires c =
+pub invariant_of-formula : goal.invariant_of-formula
+invariant_of-formula c =
     let f = guard-found c.args.text.now (reading c.args.text.now) c.parse.result c.parse.new.codes c.parse.new.out c.parse.ensures
     c.in_ok-guard.guard c.in_ok-guard.was in
-    lists-searchable c.args.text.now c.args.start c.args.out.now c.in_ok-guard.guard c.parse.new.codes c.parse.new.out f
-    (search rules) (sym c.is_state.ensures ∙ c.if-not-is_state.false)
+    record { proper = read-triplets c.args.text.now c.in_ok-guard.guard c.parse.new.codes c.parse.new.out f (search rules) }
+
+pub search-found-requires : goal.search-found-requires
+search-found-requires c =
+    lists-searchable _ _ (sym c.is_state.ensures ∙ c.if-not-is_state.false)
 
 pub returns : goal.returns
 returns c =

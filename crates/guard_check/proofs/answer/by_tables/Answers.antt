@@ -2,15 +2,11 @@
 use mathlib.Core.Path.{refl}
 use native.Mathlib.Omega.{arith}
 use lib.Pow.{pow_pos}
-use Rattle.guard_check.proofs.Tables.{searchable, fully-found}
+use Rattle.guard_check.proofs.Tables.{fully-found}
 use Rattle.guard_check.proofs.answer.by_tables.Goals as goal
-
-pub search-found-requires : goal.search-found-requires
-search-found-requires c =
-    (searchable c.args.triplets.now c.args.count c.args.flags c.args.root (c.requires), omega (arith, pow_pos c.args.flags))
 
 pub returns : goal.returns
 returns c =
-    fully-found c.args.triplets.now c.args.count c.args.flags c.args.root (c.requires) c.search-found.result c.verdict_of.result c.search-found.ensures
+    fully-found c.args.formula.now.triplets.now c.args.formula.now.count c.args.formula.now.flags c.args.formula.now.root (c.requires) c.search-found.result c.verdict_of.result c.search-found.ensures
     refl
     c.verdict_of.ensures

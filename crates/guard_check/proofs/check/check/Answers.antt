@@ -3,6 +3,7 @@ use native.Mathlib.Omega.{arith}
 use Rattle.std.proofs.lemmas.Result.{err_from_is_err_and}
 use Rattle.notation.specs.Reading.{reading}
 use Rattle.reading.proofs.Serving.{guard-found, refusal-found}
+use Rattle.read_truth.proofs.Begun.{read-triplets}
 use Rattle.guard_check.proofs.Checking.{too_long, too-deep, from-tables, refused-too, tables-say}
 use Rattle.guard_check.proofs.check.check.Goals as goal
 
@@ -13,6 +14,15 @@ returns-then-text-gt-TEXT c =
 pub returns-then-depth-gt-DEPTH : goal.returns-then-depth-gt-DEPTH
 returns-then-depth-gt-DEPTH c =
     too-deep c.args.text.now c.args.depth (omega (arith, c.if-text-gt-TEXT.false)) (omega (arith, c.if-depth-gt-DEPTH.true))
+
+pub invariant_of-formula : goal.invariant_of-formula
+invariant_of-formula c =
+    let text = c.args.text.now in
+    let codes = c.parse.new.codes in
+    let out = c.parse.new.out in
+    let x = c.in_ok-guard.guard in
+    let f = guard-found text (reading text) c.parse.result codes out c.parse.ensures x c.in_ok-guard.was in
+    record { proper = read-triplets text x codes out f (omega (arith, f.read.room)) }
 
 pub answer-verdict-requires : goal.answer-verdict-requires
 answer-verdict-requires c =

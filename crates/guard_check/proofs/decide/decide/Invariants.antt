@@ -7,6 +7,6 @@ use Rattle.guard_check.proofs.decide.decide.Given as goal
 abbrev pub invariant-loop-done : goal.invariant-loop-done
 invariant-loop-done l =
     record {
-      size : l.relation.size ≡ in_use l.count;
-      trying : Trying l.triplets l.count l.flags l.depth l.root l.done l.state l.relation.of;
+      size : l.relation.size ≡ in_use l.formula.count;
+      trying : Trying l.formula.triplets.now l.formula.count l.formula.flags l.depth l.formula.root l.done l.state l.relation.of;
     }
