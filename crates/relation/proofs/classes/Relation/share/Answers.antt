@@ -1,7 +1,5 @@
 -- `relation::sharing::share` meets its contract: a contradictory relation holds all, so that the other is what they share.
-use mathlib.Core.Path.{subst}
-use Prim.Native.Nat.{ℕ}
-use Rattle.relation.specs.clauses.Classes.{Classes, entry, kept}
+use Rattle.relation.specs.clauses.Classes.{entry, kept}
 use Rattle.relation.proofs.ClassLaws.{relation-all, true-leads, contradictory-told, classes-at}
 use Rattle.relation.proofs.ShareLaws.{common-first, common-second}
 use Rattle.relation.proofs.classes.Relation.share.Goals as goal

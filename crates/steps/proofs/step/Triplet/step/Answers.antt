@@ -50,5 +50,6 @@ returns-clause-stepped c =
     stepped-named c.args.relation.now.size c.args.self.kind c.args.self.x c.args.self.y c.args.self.z c.pattern_of-before.result c.args.relation.now.of
     c.args.relation.now.classes pat
     c.hold.new.relation.of (λ e. c.if-next-eq-CONTRADICTORY.false (c.after-next.ensures ∙ e))
-    (subst (λ (e : ℕ). Named c.args.relation.now.size e c.args.self.x c.args.self.y c.args.self.z c.args.relation.now.of c.hold.new.relation.of) c.after-next.ensures
+    (subst (λ (e : ℕ). Named c.args.relation.now.size e c.args.self.x c.args.self.y c.args.self.z c.args.relation.now.of c.hold.new.relation.of)
+    c.after-next.ensures
     c.hold.ensures.named)
