@@ -9,7 +9,7 @@ use lib.ListN.{length}
 use lib.Dec.{leb, ltb}
 use lib.Pow.{pow-lt}
 use Rattle.notation.specs.Triplets.{negation}
-use Rattle.notation.specs.Reading.{refusal, reading}
+use Rattle.notation.specs.Reading.{reading}
 use Rattle.notation.specs.declared.refusal.Refusal.{Refusal}
 use Rattle.reading.specs.declared.parse.Guard as counted
 use Rattle.reading.proofs.Serving as serving
@@ -49,10 +49,6 @@ forced-says n keep gap xs count root ys m c r w f et ec er ef out after b t z p 
     forced-decides n keep gap xs count root ys m c r w b told
 
 -- one turn
-pub turn-dropped : (n : ℕ) (v : ℕ → Bool) (gap keep place e : ℕ) (b : Bool) → e ≡ 2 ^ place → b ≡ true
-    → Decides b (Forces n v gap (keeps n (keep - e))) → Turned n v gap keep place (keep - e)
-turn-dropped n v gap keep place e b h t d = let d' : Forces n v gap (keeps n (keep - e)) = rw t at d in rw h (inl (rw h at d', refl))
-
 pub turn-held : (n : ℕ) (v : ℕ → Bool) (gap keep place e : ℕ) (b : Bool) → e ≡ 2 ^ place → b ≡ false
     → Decides b (Forces n v gap (keeps n (keep - e))) → Turned n v gap keep place keep
 turn-held n v gap keep place e b h t d = let d' : Forces n v gap (keeps n (keep - e)) → ⊥ = rw t at d in inr (rw h at d', refl)
@@ -128,15 +124,7 @@ keeping-same : (n m : ℕ) (v w : ℕ → Bool) (gap keep : ℕ) → n ≡ m →
 keeping-same n m v w gap keep e f k = rw (← e, ← f) k
 
 module _ (text : List ℕ) (state : ℕ) where
-  pub explains-refusal : (f : Refusal) → reading text ≡ refusal f.number f.place → Explains (reading text) state (Refused f)
-  explains-refusal f e = rw e refl
-
   module _ (x : counted.Guard) (codes xs : List ℕ) (f : serving.Found text (reading text) x codes xs) where
-    pub explains-no-state : ltb state (2 ^ x.flags) ≡ false → (k : Refusal) → k ≡ fault 9 0 → Explains (reading text) state (Refused k)
-    explains-no-state h k e =
-        let late : ltb state (2 ^ length f.flags) ≡ false = rw (read_flags text x codes xs f) at h in
-        rw (f.says, late) (ap Refused e)
-
     of_tree : (s : ℕ) → root_value x.flags xs x.count x.root s ≡ value (length f.flags) s f.tree
     of_tree s = written-value x.flags x.count x.root f.tree xs (read-begins text x codes xs f) s
         ∙ ap (λ (n : ℕ). value n s f.tree) (read_flags text x codes xs f)
