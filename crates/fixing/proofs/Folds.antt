@@ -6,7 +6,7 @@ use mathlib.Core.List.{List, []}
 use mathlib.Core.Logic.{◌⊎◌, inl, inr, ⊎_elim}
 use native.Mathlib.Omega.{arith}
 use native.Mathlib.Nat.{eq-or-lt_of_le}
-use lib.ListN.{length, get_or}
+use lib.ListN.{get_or}
 use Rattle.notation.specs.Ceilings.{flag_ceiling}
 use Rattle.notation.specs.Triplets.{triplet_variable, negation}
 use Rattle.notation.specs.clauses.Shape.{Names, Shape, kind_at, y_at, z_at}
@@ -15,9 +15,9 @@ use Rattle.notation.proofs.Shaped.{negation-half}
 use Rattle.truth.specs.Connectives.{gate}
 use Rattle.truth.specs.clauses.Computed.{literal_value, computed}
 use Rattle.truth.proofs.Literals.{literal-even, literal-odd, literal-negation, literal-agrees}
-use Rattle.truth.proofs.Computing.{named-below, named-kept, named-cases, computed_same, triplet-made, flag-kept, true-at-start, flag-at-start}
+use Rattle.truth.proofs.Computing.{named-kept, named-cases, computed_same, triplet-made, flag-kept, true-at-start, flag-at-start}
 use Rattle.fixing.specs.clauses.Fixing.{Stands, TripletFixed}
-use Rattle.fixing.specs.clauses.Folding.{Table, Reads, Folding, Folded}
+use Rattle.fixing.specs.clauses.Folding.{Table, Reads, Folding}
 
 -- names of fewer triplets are names of more
 pub named_more : (n j k l : ℕ) → j ≤ k → Names n j l → Names n k l
@@ -221,18 +221,6 @@ fixing-start less n xs ys f t =
         (λ (p : (triplet_variable 0 < l / 2) × (l / 2 ≤ triplet_variable 0)). absurd (omega arith))
         m
 
--- the root is what became of it
-pub fixing-done : (less n : ℕ) (f₀ : ℕ → ℕ) (xs : List ℕ) (count root : ℕ) (f : ℕ → ℕ) (c : ℕ) (ys : List ℕ)
-    → Folding less n (Reads less n f₀) xs count f c ys → Names n count root
-    → Folded less n f₀ xs count root ys c (f root)
-fixing-done less n f₀ xs count root f c ys i m = record {
-  few = i.few;
-  shape = i.shape;
-  named = i.named root m;
-  valued = λ s u h. i.valued s u
-      root h m;
-}
-
 -- one triplet fixed, one more is
 pub fixing-again : (less n : ℕ) (R : ℕ → ℕ → Type 0) (xs : List ℕ) (j : ℕ) (to : List ℕ) (c : ℕ) (ys to' : List ℕ) (c' : ℕ)
     (ys' : List ℕ)
@@ -251,11 +239,3 @@ fixing-again less n R xs j to c ys to' c' ys' fewer small i ny nz k r =
     (fixing-new less n R xs j (λ l. get_or to l 0) c ys fewer small i ny nz (λ l. get_or to' l 0) r.t ys' r.put.others r.put.even
     r.put.odd r.agree p.1 k p.2 p.3 p.4))
     r.became
-
--- what became of an operand lies below the triplet, and so does the operand
-pub operand_below : (less n : ℕ) (R : ℕ → ℕ → Type 0) (xs : List ℕ) (j : ℕ) (to : List ℕ) (c : ℕ) (ys : List ℕ) (l : ℕ) → less ≤ n
-    → n ≤ flag_ceiling
-    → Folding less n R xs j (λ l. get_or to l 0) c ys → Names n j l → 2 * triplet_variable (suc j) ≤ length to
-    → (l < length to) × (get_or to l 0 / 2 < triplet_variable (suc j))
-operand_below less n R xs j to c ys l fewer small i m h =
-    (omega (arith, named-below n j l small m), omega (arith, named-below less c (get_or to l 0) (omega arith) (i.named l m), i.few))

@@ -3,7 +3,7 @@ ghost use Rattle.std.specs.Prelude.{◌≡◌, suc, ◌+◌, ◌*◌, ◌^◌, �
 ghost use Rattle.ground.specs.Choice.{choose};
 ghost use Rattle.notation.specs.Ceilings.{connective_ceiling};
 ghost use Rattle.notation.specs.Triplets.{triplet_variable};
-ghost use Rattle.fixing.specs.clauses.Fixing.{Simplified, Put, Operands, TripletFixed};
+ghost use Rattle.fixing.specs.clauses.Fixing.{Simplified, PutAt, Operands, TripletFixed};
 
 use notation::ceilings::FLAGS;
 use notation::triplets::negated;
@@ -42,14 +42,13 @@ fn simplified(kind: u16, y: u16, z: u16, x: u16) -> u16
     x
 }
 
-// Notes that triplet j became the literal t.
-fn put(to: &mut [u16], j: usize, t: u16)
-    requires { (t + 1 < 2 ^ 16) × (2 * triplet_variable (suc j) + 1 < length to.old) × (j < connective_ceiling) }
-    ensures { Put to.old j t to.new }
+// Notes that a variable became the literal t.
+pub fn put(to: &mut [u16], variable: usize, t: u16)
+    requires { (t + 1 < 2 ^ 16) × (2 * variable + 1 < length to.old) }
+    ensures { PutAt to.old variable t to.new }
 {
-    let x = 2 * (FLAGS + 1 + j);
-    to[x] = t;
-    to[x + 1] = negated(t);
+    to[2 * variable] = t;
+    to[2 * variable + 1] = negated(t);
 }
 
 // Fixes triplet j, given that c are left before it: a literal stands for it, or it is one more. Answers how many are left.
@@ -64,7 +63,7 @@ pub fn fix_triplet(xs: &[u16], j: usize, to: &mut [u16], ys: &mut [u16], c: usiz
     let z = to[xs[3 * j + 2] as usize];
     let x = (2 * (FLAGS + 1 + c)) as u16;
     let t = simplified(kind, y, z, x);
-    put(to, j, t);
+    put(to, FLAGS + 1 + j, t);
     ys[3 * c] = kind;
     ys[3 * c + 1] = y;
     ys[3 * c + 2] = z;

@@ -6,29 +6,17 @@ use mathlib.Core.List.{List, []}
 use mathlib.Core.Logic.{⊎_elim}
 use native.Mathlib.Omega.{arith}
 use native.Mathlib.Nat.{eq-or-lt_of_le, le_of_suc-le-suc}
-use lib.ListN.{length, get_or, set, length-set}
-use lib.Seq.{get_or-set_same, get_or-set_other}
+use lib.ListN.{get_or}
 use Rattle.ground.specs.Choice.{choose}
 use Rattle.notation.specs.Triplets.{negation}
 use Rattle.ground.specs.Bits.{bit}
 use Rattle.truth.specs.clauses.Computed.{literal_value, computed}
 use Rattle.truth.proofs.Literals.{literal-even}
 use Rattle.truth.proofs.Computing.{true-at-start, flag-at-start}
+use Rattle.fixing.specs.clauses.Fixing.{PutAt}
 use Rattle.fixing.specs.clauses.Folding.{Table, Reads, Folded, reading}
 use Rattle.fixing.proofs.Standing.{constant-value, constant_of}
-use Rattle.freeing.specs.clauses.Some.{keeps, free_of, flag_literal, StandsFor, PutFlag, Begun, FixedSome}
-
--- two stores say what flag i became
-pub put-flag-made : (to : List ℕ) (i t u : ℕ) → 2 * i + 1 < length to → u ≡ negation t → PutFlag to i t (set (set to (2 * i) t) (2 * i + 1) u)
-put-flag-made to i t u h n =
-    record {
-      long = length-set (set to (2 * i) t) (2 * i + 1) u ∙ length-set to (2 * i) t;
-      even = get_or-set_other (set to (2 * i) t) (2 * i + 1) (2 * i) u 0 (λ (z : 2 * i ≡ 2 * i + 1). omega arith)
-          ∙ get_or-set_same to (2 * i) t 0 (omega arith);
-      odd = get_or-set_same (set to (2 * i) t) (2 * i + 1) u 0 (rw (length-set to (2 * i) t) h) ∙ n;
-      others = λ l a. get_or-set_other (set to (2 * i) t) (2 * i + 1) l u 0 (λ (z : l ≡ 2 * i + 1). a (omega arith))
-          ∙ get_or-set_other to (2 * i) l t 0 (λ (z : l ≡ 2 * i). a (omega arith));
-    }
+use Rattle.freeing.specs.clauses.Some.{keeps, free_of, flag_literal, StandsFor, Begun, FixedSome}
 
 -- how many are free
 one_at_most : (b : Bool) → choose b 0 1 ≤ 1
@@ -62,36 +50,6 @@ kept-number : (k : Bool) (v : Bool) (a : ℕ) → flag_literal k v (suc a) ≡ f
 kept-number true v a = refl
 kept-number false v a = let e : suc a ≡ a + 1 = omega arith in ap (λ (x : ℕ). 2 * x) e
 
--- a flag started, kept or free
-pub flag-kept-put : (to to' : List ℕ) (i : ℕ) (kept value : Bool) (free t r : ℕ) → kept ≡ true → t ≡ choose value 0 1 → PutFlag to i t to'
-    → r ≡ free
-    → PutFlag to i (flag_literal kept value (suc free)) to' × (r ≡ free + choose kept 0 1)
-flag-kept-put to to' i kept value free t r k e p q = rw k (rw e at p, omega (arith, q))
-
-pub flag-free-put : (to to' : List ℕ) (i : ℕ) (kept value : Bool) (free t r : ℕ) → kept ≡ false → t ≡ 2 * suc free → PutFlag to i t to'
-    → r ≡ free + 1
-    → PutFlag to i (flag_literal kept value (suc free)) to' × (r ≡ free + choose kept 0 1)
-flag-free-put to to' i kept value free t r k e p q = rw k (rw e at p, q)
-
--- true and false, by two stores
-pub two-top : (to : List ℕ) → 2 ≤ length to → get_or (set (set to 0 0) 1 1) 0 0 ≡ 0
-two-top to h = get_or-set_other (set to 0 0) 1 0 1 0 (λ (z : 0 ≡ 1). omega arith) ∙ get_or-set_same to 0 0 0 (omega arith)
-
-pub two-bottom : (to : List ℕ) → 2 ≤ length to → get_or (set (set to 0 0) 1 1) 1 0 ≡ 1
-two-bottom to h = get_or-set_same (set to 0 0) 1 1 0 (omega (arith, length-set to 0 0))
-
-pub begun-from : (n keep state : ℕ) (to to' after : List ℕ) (m : ℕ) → Begun n keep state n to' after m → length to' ≡ length to
-    → Begun n keep state n to after m
-begun-from n keep state to to' after m b e = record {
-  long = b.long
-      ∙ e;
-  free = b.free;
-  top = b.top;
-  bottom = b.bottom;
-  even = b.even;
-  odd = b.odd;
-}
-
 pub begun-none : (n keep state : ℕ) (to : List ℕ) → get_or to 0 0 ≡ 0 → get_or to 1 0 ≡ 1 → Begun n keep state 0 to to 0
 unfolding free_of
 begun-none n keep state to a b =
@@ -106,7 +64,7 @@ begun-none n keep state to a b =
 
 pub begun_more : (n keep state i : ℕ) (to₀ to to' : List ℕ) (free free' : ℕ) (kept value : Bool) → Begun n keep state i to₀ to free
     → kept ≡ keeps n keep (suc i) → value ≡ bit state (n - suc i)
-    → PutFlag to (suc i) (flag_literal kept value (suc free)) to' → free' ≡ free + choose kept 0 1
+    → PutAt to (suc i) (flag_literal kept value (suc free)) to' → free' ≡ free + choose kept 0 1
     → Begun n keep state (suc i) to₀ to' free'
 begun_more n keep state i to₀ to to' free free' kept value b ek ev p e =
     let next : free' ≡ free_of (keeps n keep) (suc i) = rw (free-next (keeps n keep) i, ← b.free, ← ek) e in

@@ -3,35 +3,26 @@ ghost use Rattle.std.specs.Prelude.{◌≡◌, suc, ◌+◌, ◌*◌, ◌^◌, �
 ghost use Rattle.ground.specs.Choice.{choose};
 ghost use Rattle.notation.specs.Ceilings.{flag_ceiling, connective_ceiling};
 ghost use Rattle.notation.specs.Triplets.{triplet_variable};
-ghost use Rattle.freeing.specs.clauses.Some.{PutFlag, flag_literal, Begun, FixedSome};
+ghost use Rattle.fixing.specs.clauses.Fixing.{PutAt};
+ghost use Rattle.freeing.specs.clauses.Some.{flag_literal, Begun, FixedSome};
 
 use fixing::fold::fold;
-use fixing::triplet::constant;
-use notation::triplets::negated;
+use fixing::triplet::{constant, put};
 use truth::formula::Formula;
 use truth::states::is_set;
-
-// Notes that flag i became the literal t.
-fn put_flag(to: &mut [u16], i: usize, t: u16)
-    requires { (t + 1 < 2 ^ 16) × (2 * i + 1 < length to.old) × (i ≤ flag_ceiling) }
-    ensures { PutFlag to.old i t to.new }
-{
-    to[2 * i] = t;
-    to[2 * i + 1] = negated(t);
-}
 
 // What becomes of flag i, after so many free ones: a constant where it is kept, else the next free flag. Answers how many are free.
 fn start_flag(to: &mut [u16], i: usize, kept: bool, value: bool, free: usize) -> usize
     requires { (free < i) × (2 * i + 1 < length to.old) × (i ≤ flag_ceiling) }
-    ensures { PutFlag to.old i (flag_literal kept value (suc free)) to.new × (result ≡ free + choose kept 0 1) }
+    ensures { PutAt to.old i (flag_literal kept value (suc free)) to.new × (result ≡ free + choose kept 0 1) }
 {
     if kept {
         let t = constant(value);
-        put_flag(to, i, t);
+        put(to, i, t);
         return free;
     }
     let t = (2 * (free + 1)) as u16;
-    put_flag(to, i, t);
+    put(to, i, t);
     free + 1
 }
 

@@ -34,12 +34,6 @@ pub record Stretch (v : ℕ → Bool) (base len from : ℕ) (out₀ out : List �
   pub within : j ≤ len
   pub go : (r : Found) (after : List ℕ) → Writes out m (false_from v (base + j) (len - j)) r after → Writes out₀ from (false_from v base len) r after
 
-pub stretch-start : (v : ℕ → Bool) (base len from : ℕ) (out : List ℕ) → from ≤ length out → Stretch v base len from out out 0 from
-stretch-start v base len from out h =
-    let e : base + 0 ≡ base = omega arith in
-    let f : len - 0 ≡ len = omega arith in
-    record { same = refl; room = h; within = omega arith; go = λ r after w. rw (e, f) at w }
-
 module _ (v : ℕ → Bool) (base len from : ℕ) (out₀ out : List ℕ) (j m : ℕ) (i : Stretch v base len from out₀ out j m) where
   stretch-parts : (d : ℕ) → j + d ≤ len → false_from v (base + j) (len - j) ≡ false_from v (base + j) d ++ false_from v (base + (j + d)) (len - (j + d))
   stretch-parts d h =

@@ -1,6 +1,6 @@
 -- The states that the set bits of a word stand for, from the lowest on.
 use Prim.Native.Nat.{ℕ, suc, ◌+◌, ◌-◌, ◌/◌, ◌^◌, ◌≤◌, ◌<◌}
-use mathlib.Core.Path.{◌≡◌, refl, sym, ap, ◌∙◌}
+use mathlib.Core.Path.{◌≡◌, sym, ap, ◌∙◌}
 use mathlib.Core.Bool.{Bool, false, not}
 use mathlib.Core.List.{List, [], ◌∷◌}
 use native.Mathlib.Omega.{arith}
@@ -51,11 +51,6 @@ pub record Rest (word base from : ℕ) (out₀ out : List ℕ) (rest at m : ℕ)
   pub small : rest < 2 ^ (base + word_bits - at)
   pub go : (r : Found) (after : List ℕ) → Writes out m (false_from (marked rest at) at (base + word_bits - at)) r after
       → Writes out₀ from (false_from (marked word base) base word_bits) r after
-
-pub rest-start : (word base from : ℕ) (out : List ℕ) → from ≤ length out → word < 2 ^ word_bits → Rest word base from out out word base from
-rest-start word base from out h b =
-    let e : base + word_bits - base ≡ word_bits = omega arith in
-    record { same = refl; room = h; lower = omega arith; upper = omega arith; small = rw e b; go = λ r after w. rw e at w }
 
 module _ (word base from : ℕ) (out₀ out : List ℕ) (rest at m : ℕ) (i : Rest word base from out₀ out rest at m) where
   pub rest-done : rest ≡ 0 → Writes out₀ from (false_from (marked word base) base word_bits) (Done m) out

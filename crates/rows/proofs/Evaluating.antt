@@ -1,16 +1,11 @@
 -- The rows of all triplets, one after the other.
 use Prim.Native.Nat.{ℕ, suc, ◌≤◌, ◌<◌}
-use mathlib.Core.Path.{refl, ◌∙◌}
+use mathlib.Core.Path.{◌∙◌}
 use mathlib.Core.List.{List}
-use native.Mathlib.Omega.{arith}
 use Rattle.notation.specs.Ceilings.{flag_ceiling}
 use Rattle.notation.specs.clauses.Shape.{Shape}
 use Rattle.truth.proofs.Computing.{valued-more}
 use Rattle.rows.specs.clauses.Rows.{in_row, TripletMade, FlagRows, Evaluated}
-
-pub evaluated-none : (n width : ℕ) (xs rows : List ℕ) → FlagRows n width rows → Evaluated n width xs 0 rows rows
-evaluated-none n width xs rows f =
-    record { long = refl; valued = λ s h. record { top = f.top s h; flags = λ i p q. f.flags s i h p q; gates = λ j p. absurd (omega arith) } }
 
 pub evaluated-more : (n width c j : ℕ) (xs rows rows' after : List ℕ) → n ≤ flag_ceiling → Shape n c xs → j < c
     → Evaluated n width xs j rows rows' → TripletMade xs j rows' width after → Evaluated n width xs (suc j) rows after

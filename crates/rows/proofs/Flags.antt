@@ -1,5 +1,5 @@
 -- The rows of flags: bit p of each of the 64 states of a word.
-use Prim.Native.Nat.{ℕ, zero, suc, ◌+◌, ◌*◌, ◌-◌, ◌/◌, ◌%◌, ◌^◌, ◌≤◌, ◌<◌}
+use Prim.Native.Nat.{ℕ, zero, suc, ◌+◌, ◌*◌, ◌-◌, ◌/◌, ◌%◌, ◌≤◌, ◌<◌}
 use mathlib.Core.Path.{◌≡◌, refl, sym, ap, ◌∙◌, subst}
 use mathlib.Core.Bool.{true, false, beq}
 use mathlib.Core.List.{List, [], ◌∷◌}
@@ -9,9 +9,7 @@ use native.Mathlib.Nat.{eq-or-lt_of_le}
 use lib.ListN.{length, get_or}
 use lib.Arith.{digits_lt}
 use lib.Dec.{T}
-use borrow.Author.Tests.{eq-eqb}
 use Rattle.ground.specs.Bits.{bit}
-use Rattle.ground.proofs.Cases.{parity}
 use Rattle.rows.specs.clauses.Rows.{word_flags, all_ones, in_row, WordOf, RowMade}
 use Rattle.truth.specs.clauses.Words.{word_bits}
 use Rattle.rows.proofs.Bits.{bit_shifted, bit-none, bit-ones, every, every-at}

@@ -4,7 +4,7 @@ use mathlib.Core.Path.{◌≡◌, refl, sym, ap, ◌∙◌}
 use mathlib.Core.Bool.{Bool, true, false}
 use mathlib.Core.List.{List, ◌++◌}
 use native.Mathlib.Omega.{arith}
-use native.Mathlib.Nat.{pow-suc, mul_comm, mul_assoc, suc-mul, zero-mod, mul-le-mul_right}
+use native.Mathlib.Nat.{pow-suc, mul_comm, mul_assoc, suc-mul, zero-mod}
 use native.Mathlib.Numerals.{add-one}
 use lib.ListN.{length}
 use lib.Pow.{low, high, pow_pos, pow-add, pow_mono, shl_exact}
@@ -190,9 +190,3 @@ rows_all low most width rows after h b l f =
 -- 2^more words hold the states of so many more flags than one word
 pub words-hold : (more : ℕ) → 2 ^ (word_flags + more) ≤ word_bits * 2 ^ more
 words-hold more = omega (arith, pow-add 2 word_flags more)
-
--- where the rows of all variables fit, so do those of true and of the flags
-pub flags-fit : (n width long : ℕ) → n ≤ flag_ceiling → triplet_variable (suc connective_ceiling) * width ≤ long → suc n * width ≤ long
-flags-fit n width long h l =
-    let less : suc n ≤ triplet_variable (suc connective_ceiling) = omega arith in
-    omega (arith, mul-le-mul_right width less)

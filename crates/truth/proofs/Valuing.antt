@@ -1,5 +1,5 @@
 -- A list of truth values that is filled, variable by variable, has the values that the triplets compute.
-use Prim.Native.Nat.{ℕ, suc, ◌+◌, ◌*◌, ◌-◌, ◌/◌, ◌%◌, ◌^◌, ◌≤◌, ◌<◌}
+use Prim.Native.Nat.{ℕ, suc, ◌+◌, ◌-◌, ◌/◌, ◌%◌, ◌^◌, ◌≤◌, ◌<◌}
 use mathlib.Core.Path.{◌≡◌, refl, ◌∙◌}
 use mathlib.Core.Bool.{Bool, true, false}
 use mathlib.Core.List.{List}
@@ -18,7 +18,7 @@ use Rattle.ground.specs.Bits.{bit}
 use Rattle.truth.specs.Connectives.{gate}
 use Rattle.truth.specs.clauses.Computed.{literal_value, computed, Valued, root_value, Triplets}
 use Rattle.truth.specs.clauses.Values.{value_in, FlagsSet}
-use Rattle.truth.proofs.Computing.{valued, named-below, valued-more, valued-unique}
+use Rattle.truth.proofs.Computing.{valued, valued-more, valued-unique}
 
 -- ---- one value is set
 set_here : (values : List Bool) (v : ℕ) (b : Bool) → v < length values → value_in (set values v b) v ≡ b
@@ -50,19 +50,12 @@ flags-more n s k values after b f h e =
     below : (i : ℕ) → (i ≡ k + 1 → ⊥) → i ≤ k + 1 → i ≤ k
     below i a q = ⊎_elim (λ (l : k < i). absurd (a (omega arith))) (λ (l : i ≤ k). l) (lt-or-ge k i)
 
--- what was there before true was set has the same length
-pub flags-all : (n s k : ℕ) (values after : List Bool) → FlagsSet n s k (set values 0 true) after → FlagsSet n s k values after
-flags-all n s k values after f = record { long = f.long ∙ length-set values 0 true; top = f.top; flags = f.flags }
-
 -- ---- the other sign of the root is named too
 pub triplets-negated : (n : ℕ) (xs : List ℕ) (c r u : ℕ) → Triplets n xs c r → u ≡ negation r → Triplets n xs c u
 triplets-negated n xs c r u t e = record { flags = t.flags; count = t.count; shape = t.shape; named = rw (e, negation-half r) t.named }
 
 -- ---- the triplets
 module _ (n s c root : ℕ) (xs : List ℕ) (t : Triplets n xs c root) where
-  pub valued-none : (values after : List Bool) → FlagsSet n s n values after → Valued n s 0 xs (value_in after)
-  valued-none values after f = record { top = f.top; flags = f.flags; gates = λ j h. absurd (omega arith) }
-
   -- one more triplet is set, among as many variables as there may be
   pub valued_set : (j x : ℕ) (values : List Bool) (b : Bool) → j < c → Valued n s j xs (value_in values) → x ≡ triplet_variable (suc j)
       → length values ≡ triplet_variable (suc connective_ceiling)
@@ -75,20 +68,6 @@ module _ (n s c root : ℕ) (xs : List ℕ) (t : Triplets n xs c root) where
       (λ u p. set-elsewhere values x u b (λ q. omega arith))
       (rw (← at) (set_here values x b (omega arith) ∙ e)) in
       rw add-one more
-
-  -- what a triplet and the root name is among as many variables as there may be
-  pub operands-known : (j m : ℕ) → j < c → m ≡ triplet_variable (suc connective_ceiling) → (3 * j + 2 < length xs) × (y_at xs j / 2 < m)
-      × (z_at xs j / 2 < m)
-  operands-known j m h e =
-      let a = t.count in (
-        omega arith,
-        omega (arith, named-below n j (y_at xs j) t.flags (t.shape.ys j h)),
-        omega
-            (arith, named-below n j (z_at xs j) t.flags (t.shape.zs j h)),
-      )
-
-  pub root-known : (m : ℕ) → m ≡ triplet_variable (suc connective_ceiling) → root / 2 < m
-  root-known m e = let a = t.count in omega (arith, named-below n c root t.flags t.named)
 
   -- once all triplets are set, the root has the value that they compute
   pub root-set : (values : List Bool) → Valued n s c xs (value_in values) → literal_value (value_in values) root ≡ root_value n xs c root s

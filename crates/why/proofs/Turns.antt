@@ -51,10 +51,6 @@ forced-says n keep gap xs count root ys m c r w f et ec er ef out after b t z p 
     forced-decides n keep gap xs count root ys m c r w b told
 
 -- one turn
-pub turn-dropped : (n : ℕ) (v : ℕ → Bool) (gap keep place e : ℕ) (b : Bool) → e ≡ 2 ^ place → b ≡ true
-    → Decides b (Forces n v gap (keeps n (keep - e))) → Turned n v gap keep place (keep - e)
-turn-dropped n v gap keep place e b h t d = let d' : Forces n v gap (keeps n (keep - e)) = rw t at d in rw h (inl (rw h at d', refl))
-
 pub turn-held : (n : ℕ) (v : ℕ → Bool) (gap keep place e : ℕ) (b : Bool) → e ≡ 2 ^ place → b ≡ false
     → Decides b (Forces n v gap (keeps n (keep - e))) → Turned n v gap keep place keep
 turn-held n v gap keep place e b h t d = let d' : Forces n v gap (keeps n (keep - e)) → ⊥ = rw t at d in inr (rw h at d', refl)
@@ -134,11 +130,6 @@ module _ (text : List ℕ) (state : ℕ) where
   explains-refusal f e = rw e refl
 
   module _ (x : counted.Guard) (codes : List Code) (xs : List ℕ) (f : serving.Found text (reading text) x codes xs) where
-    pub explains-no-state : ltb state (2 ^ x.flags) ≡ false → (k : Refusal) → k ≡ fault 9 0 → Explains (reading text) state (Err k)
-    explains-no-state h k e =
-        let late : ltb state (2 ^ length f.flags) ≡ false = rw (read_flags text x codes xs f) at h in
-        rw (f.says, late) (ap Err e)
-
     of_tree : (s : ℕ) → root_value x.flags xs x.count x.root s ≡ value (length f.flags) s f.tree
     of_tree s = written-value x.flags x.count x.root f.tree xs (read-begins text x codes xs f) s
         ∙ ap (λ (n : ℕ). value n s f.tree) (read_flags text x codes xs f)

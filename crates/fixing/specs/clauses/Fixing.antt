@@ -23,12 +23,16 @@ pub record Fixed (n : ℕ) (b : Bool) (xs : List ℕ) (count root : ℕ) (ys : L
   pub named : Names n c r
   pub valued : (s : ℕ) → bit s n ≡ b → literal_value (computed n s ys c) r ≡ literal_value (computed (suc n) s xs count) root
 
--- the table says that triplet j became the literal t, and of every other variable what it said
-pub record Put (to : List ℕ) (j t : ℕ) (after : List ℕ) : Type 0 where
+-- the table says that a variable became the literal t, and of every other variable what it said
+pub record PutAt (to : List ℕ) (v t : ℕ) (after : List ℕ) : Type 0 where
   pub long : length after ≡ length to
-  pub even : get_or after (2 * triplet_variable (suc j)) 0 ≡ t
-  pub odd : get_or after (2 * triplet_variable (suc j) + 1) 0 ≡ negation t
-  pub others : (l : ℕ) → (l / 2 ≡ triplet_variable (suc j) → ⊥) → get_or after l 0 ≡ get_or to l 0
+  pub even : get_or after (2 * v) 0 ≡ t
+  pub odd : get_or after (2 * v + 1) 0 ≡ negation t
+  pub others : (l : ℕ) → (l / 2 ≡ v → ⊥) → get_or after l 0 ≡ get_or to l 0
+
+-- and so of triplet j
+abbrev pub Put : List ℕ → ℕ → ℕ → List ℕ → Type 0
+Put to j t after = PutAt to (triplet_variable (suc j)) t after
 
 -- the table at the start, below m: true and false stay, the first flag is b, each further flag is one less
 pub record StartedBy (b : Bool) (to after : List ℕ) (m : ℕ) : Type 0 where

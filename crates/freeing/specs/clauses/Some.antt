@@ -1,5 +1,5 @@
 -- A guard with some of its flags fixed: triplets over the others, numbered in order.
-use Rattle.std.specs.Prelude.{ℕ, zero, suc, ◌+◌, ◌*◌, ◌-◌, ◌/◌, ◌≤◌, ◌<◌, ◌≡◌, Bool, List, length, get_or}
+use Rattle.std.specs.Prelude.{ℕ, zero, suc, ◌+◌, ◌*◌, ◌-◌, ◌≤◌, ◌<◌, ◌≡◌, Bool, List, length, get_or}
 use Rattle.ground.specs.Choice.{choose}
 use Rattle.notation.specs.Triplets.{negation}
 use Rattle.notation.specs.clauses.Shape.{Names, Shape}
@@ -22,13 +22,6 @@ flag_literal kept value number = choose kept (choose value 0 1) (2 * number)
 -- the state s of the free flags stands for the state t of all n: t has the gap's value at a kept flag, and that of s at a free one
 abbrev pub StandsFor : ℕ → (ℕ → Bool) → ℕ → ℕ → ℕ → Type 0
 StandsFor n kept gap s t = (i : ℕ) → 0 < i → i ≤ n → bit t (n - i) ≡ choose (kept i) (bit gap (n - i)) (bit s (free_of kept n - free_of kept i))
-
--- the table says that flag i became the literal t, and of every other variable what it said
-pub record PutFlag (to : List ℕ) (i t : ℕ) (after : List ℕ) : Type 0 where
-  pub long : length after ≡ length to
-  pub even : get_or after (2 * i) 0 ≡ t
-  pub odd : get_or after (2 * i + 1) 0 ≡ negation t
-  pub others : (l : ℕ) → (l / 2 ≡ i → ⊥) → get_or after l 0 ≡ get_or to l 0
 
 -- the table at the start, up to flag i: true and false stay, each flag became its literal, and so many are free
 pub record Begun (n keep state i : ℕ) (to after : List ℕ) (count : ℕ) : Type 0 where
