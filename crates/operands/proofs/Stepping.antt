@@ -135,7 +135,6 @@ counted p = record {
   flags = p.flags;
   signs = p.signs + 1;
   count = p.count;
- 
   refusal = p.refusal;
 }
 
