@@ -20,7 +20,7 @@ use Rattle.notation.specs.declared.place.Place.{Place}
 use Rattle.operands.specs.clauses.Steps.{Part, kind_is, joined_part, place, JoinedSays, Pushed, Popped}
 use Rattle.operands.specs.declared.waiting.Stack.{Stack}
 use Rattle.levels.specs.clauses.Levels.{plain, operands_at, below_of, tighter, part, FoundPart, Rooms, Asks, Still, Says, First}
-use Rattle.levels.proofs.Joining.{PassedSign, so-far-first, walked_on, fewer, right-alone, right-joined}
+use Rattle.levels.proofs.Joining.{so-far-first, walked_on, fewer, right-alone, right-joined}
 use Rattle.levels.proofs.Turning.{bound, Passed, Sofar, opened, asks-operand, joined-room}
 
 -- from p₀ on the operands with the literals ls, the last first, each with its sign, have been read up to p

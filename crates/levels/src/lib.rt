@@ -1,5 +1,5 @@
 // The reader: one function for each level of the notation, from loosest to tightest. They call each other in a cycle, measured by the
-// text that is left.
+// text that is left. Those that all levels share are inlined, since a call with so many arguments costs as much as what it does.
 #![tactic(auto)]
 
 ghost use Rattle.std.specs.Prelude.{◌≡◌, false, ◌+◌};
@@ -134,8 +134,9 @@ fn both(
     left_chain(text, at, brackets, codes, out, wait, Connective::And, left)
 }
 
-// The level whose operands a sign joins.
+// The level whose operands a sign joins. Inlined where the sign is known, it is one call.
 #[cycle(levels)]
+#[inline(always)]
 fn below(
     text: &[u8],
     at: &mut Place,
@@ -160,6 +161,7 @@ fn below(
 
 // The further operands of a chain that a sign joins to the left.
 #[cycle(levels)]
+#[inline(always)]
 fn left_chain(
     text: &[u8],
     at: &mut Place,
@@ -192,6 +194,7 @@ fn left_chain(
 
 // An operand with any number of `!` before it.
 #[cycle(levels)]
+#[inline(always)]
 fn operand(
     text: &[u8],
     at: &mut Place,

@@ -97,6 +97,7 @@ fn past_token(text: &[u8], at: &mut Place, literal: u16) -> Result<u16, Refused>
 }
 
 // A code: a flag that is known, or a new one.
+#[inline(always)]
 pub fn code_operand(text: &[u8], at: &mut Place, codes: &mut [Code; FLAGS]) -> Result<u16, Refused>
     requires standing { Standing text.now codes.old (place at.old) }
     requires at_value { at.old.token.kind ≡ Kind.Code }

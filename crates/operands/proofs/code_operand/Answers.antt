@@ -1,5 +1,5 @@
 -- `operands::code_operand` meets its contract: a code that is known is its flag, a new one is entered, a 25th is refused.
-use mathlib.Core.Path.{◌≡◌, sym, subst}
+use mathlib.Core.Path.{sym, subst}
 use native.Mathlib.Omega.{arith}
 use Prim.Native.Nat.{◌+◌}
 use lib.ListN.{set}

@@ -1,5 +1,5 @@
 -- `notation::codes::Code::same` meets its contract: other keys and lengths are other codes, a key tells a short one, and longer ones are compared.
-use mathlib.Core.Path.{◌≡◌, ◌∙◌, sym, ap}
+use mathlib.Core.Path.{◌≡◌, ◌∙◌, sym}
 use native.Mathlib.Omega.{arith}
 use lib.ListN.{length}
 use Rattle.notation.specs.clauses.Codes.{bytes_of, key_of}
