@@ -4,7 +4,6 @@ ghost use Rattle.notation.specs.Ceilings.{flag_ceiling};
 ghost use Rattle.ground.specs.Choice.{choose};
 ghost use Rattle.notation.specs.Reading.{reading};
 ghost use Rattle.notation.specs.clauses.Codes.{flags_in, code_in};
-ghost use Rattle.ground.specs.Bits.{bit};
 ghost use Rattle.ground.specs.Bytes.{bytes};
 ghost use Rattle.lines.specs.clauses.Put.{Puts, PutsIn, CodeTable, value_room};
 ghost use Rattle.lines.specs.Printed.{flag_value, valued, flags_of};
@@ -13,14 +12,7 @@ use crate::put::{put, put_all};
 use notation::ceilings::{FLAGS, TRIPLETS_ROOM};
 use notation::codes::Code;
 use reading::parse::parse;
-
-// A bit of a state.
-fn bit_of(state: u64, i: usize) -> bool
-    requires { i < flag_ceiling }
-    ensures { result ≡ bit state i }
-{
-    (state >> i) % 2 == 1
-}
+use truth::states::is_set;
 
 fn put_bit(out: &mut [u8], at: usize, value: bool) -> usize
     requires { at < length out.old }
@@ -59,7 +51,7 @@ fn put_values(
 {
     let mut next = at;
     for i in 0..flags {
-        let value = bit_of(state, flags - 1 - i);
+        let value = is_set(state, flags - 1 - i);
         next = put_flag(out, next, text, codes, i, value);
     }
     next
