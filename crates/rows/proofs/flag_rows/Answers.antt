@@ -12,4 +12,5 @@ loop-i-init c =
 
 pub loop-i-preserved : goal.loop-i-preserved
 loop-i-preserved c =
-    first_more _ _ _ _ _ _ _ c.loop-i.invariant (row-as _ _ _ _ (WordOf (c.args.n - (c.loop-i.i + 1))) _ c.make_row-in-loop-i.ensures (λ w r h e. search rules)) (omega arith)
+    first_more _ _ _ _ _ _ _ c.loop-i.invariant
+    (row-as _ _ _ _ (WordOf (c.args.n - (c.loop-i.i + 1))) _ c.make_row-in-loop-i.ensures (λ w r h e. search rules)) (omega arith)

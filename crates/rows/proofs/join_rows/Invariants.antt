@@ -5,4 +5,5 @@ use Rattle.rows.specs.clauses.Rows.{RowMade}
 use Rattle.rows.proofs.join_rows.Given as goal
 
 abbrev pub invariant-loop-w : goal.invariant-loop-w
-invariant-loop-w g l = RowMade l.initial.rows l.x l.w (λ w r. goal.F-post g l.word (get_or l.initial.rows (l.y + w) 0) (get_or l.initial.rows (l.z + w) 0) r) l.rows
+invariant-loop-w g l = RowMade l.initial.rows l.x l.w
+    (λ w r. goal.F-post g l.word (get_or l.initial.rows (l.y + w) 0) (get_or l.initial.rows (l.z + w) 0) r) l.rows

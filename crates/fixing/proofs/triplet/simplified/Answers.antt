@@ -1,7 +1,9 @@
 -- `fixing::triplet::simplified` meets its contract: each test is a line of the truth tables.
 use mathlib.Core.Path.{◌∙◌}
 use mathlib.Core.Logic.{inr}
-use Rattle.fixing.proofs.Standing.{of-either, of_same, implies-y-true, implies-y-false, implies-z-true, implies-z-false, implies-equal, implies-opposed, same-y-true, same-y-false, same-z-true, same-z-false, same-equal, same-opposed}
+use Rattle.fixing.proofs.Standing.{of-either, of_same}
+use Rattle.fixing.proofs.Standing.{implies-y-true, implies-y-false, implies-z-true, implies-z-false, implies-equal, implies-opposed}
+use Rattle.fixing.proofs.Standing.{same-y-true, same-y-false, same-z-true, same-z-false, same-equal, same-opposed}
 use Rattle.fixing.proofs.triplet.simplified.Goals as goal
 
 pub returns-then-y-eq0 : goal.returns-then-y-eq0

@@ -23,33 +23,33 @@ in-place rows root n width base words w many long small e h =
 
 pub overflow_add-gap : goal.overflow_add-gap
 overflow_add-gap c =
-    let h = in-place _ c.args.root _ _ c.args.place.base _ _ c.requires.n_lt_word_bits.1 c.requires.root_bound.1 c.requires.n_lt_word_bits.2 c.words_of-words.ensures
-    c.loop-w-test.true in record { fits = omega (arith, h.0) }
+    let h = in-place _ c.args.root _ _ c.args.place.base _ _ c.requires.n_lt_word_bits.1 c.requires.root_bound.1 c.requires.n_lt_word_bits.2
+    c.words_of-words.ensures c.loop-w-test.true in record { fits = omega (arith, h.0) }
 
 pub offset_bounds-rows-x : goal.offset_bounds-rows-x
 offset_bounds-rows-x c =
-    let h = in-place _ c.args.root _ _ c.args.place.base _ _ c.requires.n_lt_word_bits.1 c.requires.root_bound.1 c.requires.n_lt_word_bits.2 c.words_of-words.ensures
-    c.loop-w-test.true in record { fits = omega (arith, h.0) }
+    let h = in-place _ c.args.root _ _ c.args.place.base _ _ c.requires.n_lt_word_bits.1 c.requires.root_bound.1 c.requires.n_lt_word_bits.2
+    c.words_of-words.ensures c.loop-w-test.true in record { fits = omega (arith, h.0) }
 
 pub bounds-rows-x : goal.bounds-rows-x
 bounds-rows-x c =
-    let h = in-place _ c.args.root _ _ c.args.place.base _ _ c.requires.n_lt_word_bits.1 c.requires.root_bound.1 c.requires.n_lt_word_bits.2 c.words_of-words.ensures
-    c.loop-w-test.true in h.0
+    let h = in-place _ c.args.root _ _ c.args.place.base _ _ c.requires.n_lt_word_bits.1 c.requires.root_bound.1 c.requires.n_lt_word_bits.2
+    c.words_of-words.ensures c.loop-w-test.true in h.0
 
 pub overflow_mul-at : goal.overflow_mul-at
 overflow_mul-at c =
-    let h = in-place _ c.args.root _ _ c.args.place.base _ _ c.requires.n_lt_word_bits.1 c.requires.root_bound.1 c.requires.n_lt_word_bits.2 c.words_of-words.ensures
-    c.loop-w-test.true in record { fits = omega (arith, h.1) }
+    let h = in-place _ c.args.root _ _ c.args.place.base _ _ c.requires.n_lt_word_bits.1 c.requires.root_bound.1 c.requires.n_lt_word_bits.2
+    c.words_of-words.ensures c.loop-w-test.true in record { fits = omega (arith, h.1) }
 
 pub overflow_add-at : goal.overflow_add-at
 overflow_add-at c =
-    let h = in-place _ c.args.root _ _ c.args.place.base _ _ c.requires.n_lt_word_bits.1 c.requires.root_bound.1 c.requires.n_lt_word_bits.2 c.words_of-words.ensures
-    c.loop-w-test.true in record { fits = omega (arith, h.1) }
+    let h = in-place _ c.args.root _ _ c.args.place.base _ _ c.requires.n_lt_word_bits.1 c.requires.root_bound.1 c.requires.n_lt_word_bits.2
+    c.words_of-words.ensures c.loop-w-test.true in record { fits = omega (arith, h.1) }
 
 pub write_from-found-requires : goal.write_from-found-requires
 write_from-found-requires c =
-    let h = in-place _ c.args.root _ _ c.args.place.base _ _ c.requires.n_lt_word_bits.1 c.requires.root_bound.1 c.requires.n_lt_word_bits.2 c.words_of-words.ensures
-    c.loop-w-test.true in (c.loop-w.invariant.room, h.1)
+    let h = in-place _ c.args.root _ _ c.args.place.base _ _ c.requires.n_lt_word_bits.1 c.requires.root_bound.1 c.requires.n_lt_word_bits.2
+    c.words_of-words.ensures c.loop-w-test.true in (c.loop-w.invariant.room, h.1)
 
 pub returns-in_default : goal.returns-in_default
 returns-in_default c =
