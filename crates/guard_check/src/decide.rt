@@ -5,7 +5,8 @@ ghost use Rattle.steps.specs.clauses.Resting.{in_use, triplets_at};
 ghost use Rattle.saturation.specs.Saturation.{Stable, Flags};
 ghost use Rattle.guard_check.specs.clauses.Deciding.{Tested, Decided};
 
-use relation::classes::{Relation, turned};
+use notation::triplets::flipped;
+use relation::classes::Relation;
 use saturation::saturate::Saturator;
 use saturation::verdict::Verdict;
 use steps::rest::FIRST;
@@ -48,7 +49,7 @@ pub fn decide(formula: &Formula, depth: u64) -> Verdict
         flags: formula.flags,
     };
     let mut relation = Relation::fresh().over(FIRST + formula.count);
-    relation.join(turned(formula.root, 1), 0);
+    relation.join(flipped(formula.root, 1), 0);
     saturator.saturate(&mut relation, depth);
     if relation.is_contradictory() {
         return Verdict::Covered;

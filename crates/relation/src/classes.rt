@@ -2,11 +2,11 @@
 //
 // Whether the relation is contradictory is kept in the array too: variable 0, true, then leads to literal 1, false.
 ghost use Rattle.std.specs.Prelude.{◌≡◌, ◌+◌, ◌*◌, ◌/◌, ◌≤◌, ◌<◌, ◌^◌};
-ghost use Rattle.notation.specs.clauses.Writing.{signed};
 ghost use Rattle.relation.specs.clauses.Classes.{variable_ceiling, Classes, entry, kept};
 ghost use Rattle.relation.specs.clauses.Keeping.{Fresh, Led, tied};
 
 use notation::ceilings::VARIABLES;
+use notation::triplets::flipped;
 
 // Each variable with the literal of the lowest variable of its class.
 #[derive(Clone, Copy)]
@@ -15,14 +15,6 @@ pub struct Relation {
     // The variables in use. Each from here on stands for itself.
     pub size: usize,
     pub ghost classes: { Classes size of },
-}
-
-// The literal w, negated where s is odd.
-pub fn turned(w: u16, s: u16) -> u16
-    requires { w + s < 2 ^ 16 }
-    ensures { result ≡ signed w s }
-{
-    2 * (w / 2) + (w + s) % 2
 }
 
 // Each variable's own literal.
@@ -63,7 +55,7 @@ impl Relation {
         requires { l / 2 < variable_ceiling }
         ensures { Led (entry self.now.of) l result }
     {
-        turned(self.of[(l / 2) as usize], l)
+        flipped(self.of[(l / 2) as usize], l)
     }
 
     // Whether all literals are equal.

@@ -3,8 +3,9 @@ ghost use Rattle.std.specs.Prelude.{◌≡◌, ◌+◌, ◌/◌, ◌<◌, ◌^�
 ghost use Rattle.relation.specs.clauses.Classes.{Classes, moved, entry};
 ghost use Rattle.relation.specs.clauses.Keeping.{Joined, Leaders};
 
-use crate::classes::{Relation, turned};
+use crate::classes::Relation;
 use notation::ceilings::VARIABLES;
+use notation::triplets::flipped;
 
 // The literal w once hi has become lo.
 fn moved_to(w: u16, lo: u16, hi: u16) -> u16
@@ -12,7 +13,7 @@ fn moved_to(w: u16, lo: u16, hi: u16) -> u16
     ensures { result ≡ moved lo hi w }
 {
     if w / 2 == hi / 2 {
-        return turned(lo, w + hi);
+        return flipped(lo, w + hi);
     }
     w
 }

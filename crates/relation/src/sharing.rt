@@ -5,15 +5,16 @@ ghost use Rattle.notation.specs.clauses.Writing.{signed};
 ghost use Rattle.relation.specs.clauses.Classes.{variable_ceiling, Classes, entry};
 ghost use Rattle.relation.specs.clauses.Keeping.{Lower, Shared, SharedLeader};
 
-use crate::classes::{Relation, turned};
+use crate::classes::Relation;
 use notation::ceilings::VARIABLES;
+use notation::triplets::flipped;
 
 // Whether c and d, each negated where s is odd, are a and b.
 fn agree(a: u16, b: u16, c: u16, d: u16, s: u16) -> bool
     requires { (c + s < 2 ^ 16) × (d + s < 2 ^ 16) }
     ensures { result ≡ choose (eqb (signed c s) a) (eqb (signed d s) b) false }
 {
-    turned(c, s) == a && turned(d, s) == b
+    flipped(c, s) == a && flipped(d, s) == b
 }
 
 // The literal of the lowest variable that equals variable v in both. It is not below either leader, so the search starts at

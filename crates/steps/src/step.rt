@@ -6,7 +6,8 @@ ghost use Rattle.steps.specs.clauses.Leading.{x_place, y_place, z_place, Pattern
 ghost use Rattle.steps.specs.clauses.Resting.{Usable, Named, Stepped};
 
 use crate::after;
-use relation::classes::{Relation, turned};
+use notation::triplets::flipped;
+use relation::classes::Relation;
 
 // A triplet x = (y implies z), of kind 0, or x = (y same as z), of kind 1, by its literals. The kind stays the number that stands
 // in the list of triplets and tells the half of the table.
@@ -94,9 +95,9 @@ impl Triplet {
             0 => 1,
             1 => 0,
             2 => self.x,
-            3 => turned(self.x, 1),
+            3 => flipped(self.x, 1),
             4 => self.y,
-            5 => turned(self.y, 1),
+            5 => flipped(self.y, 1),
             _ => self.z,
         }
     }

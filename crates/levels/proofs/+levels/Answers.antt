@@ -248,7 +248,7 @@ operand-loop-bang-preserved t c =
 
 pub operand-flipped-requires : goal.operand-flipped-requires
 operand-flipped-requires t c =
-    ((c.plain-plain.ensures.found _ c.in-Ok-plain.is).writes.small, c.loop-bang.invariant.passed.parity)
+    omega (arith, (c.plain-plain.ensures.found _ c.in-Ok-plain.is).writes.small, c.loop-bang.invariant.passed.parity)
 
 pub operand-returns : goal.operand-returns
 operand-returns t c =

@@ -35,7 +35,7 @@ pub flipped-requires : goal.flipped-requires
 flipped-requires c =
     let p = count_fits c.args.pool.now c.args.spans.now c.args.i c.args.j c.args.out.now c.requires _ _ c.lay_guard-given.ensures _ _
     c.lay_guard-left.ensures _ _ c.lay_guard-right.ensures in
-    (tied-small _ _ _ c.tie-both.ensures.0 (omega (arith, p)), omega arith)
+    omega (arith, tied-small _ _ _ c.tie-both.ensures.0 (omega (arith, p)))
 
 pub tie-root-requires : goal.tie-root-requires
 tie-root-requires c =

@@ -18,15 +18,15 @@ pub join-requires : goal.join-requires
 join-requires c =
     let inside : c.args.formula.now.root / 2 < in_use c.args.formula.now.count =
     omega (arith, named-below c.args.formula.now.flags c.args.formula.now.count c.args.formula.now.root c.args.formula.now.proper.flags c.args.formula.now.proper.named) in
-    let below : c.turned.result / 2 < in_use c.args.formula.now.count =
-    half_of c.args.formula.now.root _ c.turned.result (in_use c.args.formula.now.count) c.turned.ensures inside in
+    let below : c.flipped.result / 2 < in_use c.args.formula.now.count =
+    half_of c.args.formula.now.root _ c.flipped.result (in_use c.args.formula.now.count) c.flipped.ensures inside in
     (omega (arith, below, c.over-relation.ensures.in_use), omega (arith, c.over-relation.ensures.in_use))
 
 pub returns-then-is_contradictory : goal.returns-then-is_contradictory
 returns-then-is_contradictory c =
     let start =
     trying_start c.args.formula.now.triplets.now c.args.formula.now.count c.args.formula.now.flags c.args.depth c.args.formula.now.root c.over-relation.result.of c.join.new.self.of
-    c.saturate.new.relation.of c.turned.result (c.turned.ensures ∙ signed_odd c.args.formula.now.root 1 refl)
+    c.saturate.new.relation.of c.flipped.result (c.flipped.ensures ∙ signed_odd c.args.formula.now.root 1 refl)
     (subst Fresh (sym c.over-relation.ensures.same) c.fresh.ensures.only)
     (joined-at c.over-relation.ensures.in_use c.join.ensures.joined) c.saturate.ensures.saturated in
     decided-covered c.args.formula.now.triplets.now c.args.formula.now.count c.args.formula.now.flags c.args.depth c.args.formula.now.root
@@ -36,7 +36,7 @@ pub loop-done-init : goal.loop-done-init
 loop-done-init c =
     let start =
     trying_start c.args.formula.now.triplets.now c.args.formula.now.count c.args.formula.now.flags c.args.depth c.args.formula.now.root c.over-relation.result.of c.join.new.self.of
-    c.saturate.new.relation.of c.turned.result (c.turned.ensures ∙ signed_odd c.args.formula.now.root 1 refl)
+    c.saturate.new.relation.of c.flipped.result (c.flipped.ensures ∙ signed_odd c.args.formula.now.root 1 refl)
     (subst Fresh (sym c.over-relation.ensures.same) c.fresh.ensures.only)
     (joined-at c.over-relation.ensures.in_use c.join.ensures.joined) c.saturate.ensures.saturated in
     record { size = c.saturate.ensures.size ∙ c.join.ensures.size ∙ c.over-relation.ensures.in_use; trying = start }
@@ -70,7 +70,7 @@ pub returns-then-is_contradictory-2 : goal.returns-then-is_contradictory-2
 returns-then-is_contradictory-2 c =
     let start =
     trying_start c.args.formula.now.triplets.now c.args.formula.now.count c.args.formula.now.flags c.args.depth c.args.formula.now.root c.over-relation.result.of c.join.new.self.of
-    c.saturate.new.relation.of c.turned.result (c.turned.ensures ∙ signed_odd c.args.formula.now.root 1 refl)
+    c.saturate.new.relation.of c.flipped.result (c.flipped.ensures ∙ signed_odd c.args.formula.now.root 1 refl)
     (subst Fresh (sym c.over-relation.ensures.same) c.fresh.ensures.only)
     (joined-at c.over-relation.ensures.in_use c.join.ensures.joined) c.saturate.ensures.saturated in
     decided-undecided c.args.formula.now.triplets.now c.args.formula.now.count c.args.formula.now.flags c.args.depth c.args.formula.now.root c.loop-done.done c.loop-done.state
@@ -81,7 +81,7 @@ pub returns : goal.returns
 returns c =
     let start =
     trying_start c.args.formula.now.triplets.now c.args.formula.now.count c.args.formula.now.flags c.args.depth c.args.formula.now.root c.over-relation.result.of c.join.new.self.of
-    c.saturate.new.relation.of c.turned.result (c.turned.ensures ∙ signed_odd c.args.formula.now.root 1 refl)
+    c.saturate.new.relation.of c.flipped.result (c.flipped.ensures ∙ signed_odd c.args.formula.now.root 1 refl)
     (subst Fresh (sym c.over-relation.ensures.same) c.fresh.ensures.only)
     (joined-at c.over-relation.ensures.in_use c.join.ensures.joined) c.saturate.ensures.saturated in
     decided-gap c.args.formula.now.triplets.now c.args.formula.now.count c.args.formula.now.flags c.args.depth c.args.formula.now.root c.loop-done.done c.loop-done.state

@@ -5,7 +5,7 @@ use Rattle.relation.proofs.joining.moved_to.Goals as goal
 
 pub returns-then-w-hi : goal.returns-then-w-hi
 returns-then-w-hi c =
-    c.turned.ensures ∙ sym (moved-goes c.args.lo c.args.hi c.args.w c.if-w-hi.true)
+    c.flipped.ensures ∙ sym (moved-goes c.args.lo c.args.hi c.args.w c.if-w-hi.true)
 
 pub returns : goal.returns
 returns c =

@@ -10,8 +10,8 @@ use Rattle.relation.proofs.ClassLaws.{entry_at}
 use borrow.Author.Rules.{rules}
 use Rattle.relation.proofs.classes.Relation.lead.Goals as goal
 
-pub turned-requires : goal.turned-requires
-turned-requires c =
+pub flipped-requires : goal.flipped-requires
+flipped-requires c =
     omega (
       arith,
       entry_at c.args.self.now.of (c.args.l / 2) 0 (search rules),
@@ -23,7 +23,7 @@ unfolding lead
 returns c =
     let there : get_or c.args.self.now.of (c.args.l / 2) 0 ≡ entry c.args.self.now.of (c.args.l / 2) =
     entry_at c.args.self.now.of (c.args.l / 2) 0 (search rules) in
-    let leads : c.turned.result ≡ lead (entry c.args.self.now.of) c.args.l = c.turned.ensures ∙ ap (λ (w : ℕ). signed w c.args.l) there in
+    let leads : c.flipped.result ≡ lead (entry c.args.self.now.of) c.args.l = c.flipped.ensures ∙ ap (λ (w : ℕ). signed w c.args.l) there in
     record {
       leads = leads;
       lower = omega (
