@@ -52,7 +52,8 @@ pub fn read_some(rt: &HostRuntime, into: &mut [u8]) -> Result<usize, Told>
     Err(fail(rt, UNREAD, Error::from(ErrorKind::Interrupted)))
 }
 
-// Writes some of the bytes: at least one, where there are any. A write that fails is told.
+// Writes some of the bytes: at least one, where there are any. A write that fails is told. It stands beside `read_some` as it is: one function over
+// both calls would have to ask of the call how many bytes it may say it moved, which is longer than the few lines that they share.
 pub fn write_some(rt: &HostRuntime, bytes: &[u8]) -> Result<usize, Told>
     ensures { MovedSays (length bytes.now) result }
 {

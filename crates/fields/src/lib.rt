@@ -7,7 +7,8 @@ ghost use Rattle.fields.specs.Fields.{field_at};
 // Bytes before a body: the tag and the length.
 pub const HEADER: usize = 3;
 
-// What stands at a place: a whole field, whose body goes from start up to end; one that is cut short; or nothing, at the end of the bytes.
+// What stands at a place: a whole field, whose body goes from start up to end; one that is cut short; or nothing, at the end of the bytes. Its
+// readers tell the three apart at once, which a Result of an Option would nest.
 #[derive(Clone, Copy)]
 pub enum Field {
     Whole { tag: u8, start: usize, end: usize },

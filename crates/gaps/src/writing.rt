@@ -9,7 +9,8 @@ ghost use Rattle.gaps.specs.clauses.Rows.{Writes, since, LiveWord, words_of};
 
 use rows::{ONES, WORD_BITS, WORD_FLAGS, turn};
 
-// What became of the states: all were written, and how many stand in the slice; or the slice is full, and which is the next.
+// What became of the states: all were written, and how many stand in the slice; or the slice is full, and which is the next. No Result says it
+// more plainly: both cases are answers, and each says how much was written.
 #[derive(Clone, Copy)]
 pub enum Found {
     Done(usize),
@@ -32,6 +33,7 @@ pub fn write_word(word: u64, base: u64, from: usize, out: &mut [u32]) -> Found
     let mut rest = word;
     let mut at = base;
     let mut m = from;
+    // No index is counted: the bits that are set are gone through.
     while rest != 0 {
         let t = u64::trailing_zeros(rest);
         let s = at + (t as u64);

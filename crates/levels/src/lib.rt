@@ -19,7 +19,8 @@ use operands::{
     advanced, bang_follows, closed, code_operand, joined, past_sign, sign_follows, truth_operand,
 };
 
-// A guard: operands joined by `=`, which groups to the left.
+// A guard: operands joined by `=`, which groups to the left. It, `either` and `both` differ in their sign alone, and stay apart, since the outline
+// wants one function for each level.
 #[cycle(levels)]
 pub fn same(
     text: &[u8],

@@ -20,7 +20,7 @@ pub(crate) fn literal_value(values: &[bool], literal: u16) -> bool
     !value
 }
 
-// What a triplet of this kind makes of the values of its operands.
+// What a triplet of this kind makes of the values of its operands. The kind is the number in the list, which the C entry hands out as it stands.
 fn gate_value(kind: u16, y: bool, z: bool) -> bool
     ensures { result ≡ gate kind y z }
 {
