@@ -14,7 +14,7 @@ ghost use Rattle.search.specs.clauses.Walking.{widest};
 
 use crate::walk::{block, walk};
 use gaps::writing::{Found, Place};
-use notation::ceilings::VARIABLES;
+use notation::ceilings::{LITERALS, VARIABLES};
 use rows::{WORD_FLAGS, flag_rows};
 use truth::formula::Formula;
 
@@ -27,9 +27,6 @@ const MOST_WORDS: usize = 32;
 const FOUR_TO_A_ROW: usize = 4 * VARIABLES;
 
 const MOST_TO_A_ROW: usize = MOST_WORDS * VARIABLES;
-
-// Both signs of each variable.
-const LITERALS: usize = 2 * VARIABLES;
 
 // What a row holds before it is made is never read; a fill of unequal bytes is a plain loop, where one of equal bytes may
 // become a call that is dear for a guard of few flags.

@@ -47,14 +47,10 @@ fn say_room(room: &[u16]) {
 
 // What read answers with as much room as any guard needs.
 pub fn reading(text: &[u8]) {
-    let mut room = [0u16; TRIPLETS_ROOM];
-    say(b"read ");
-    say(text);
-    say_parsed(read(text, &mut room));
-    say(b"\n");
+    reading_of(text, text);
 }
 
-// The same without the text, which is too long for a line.
+// The same with other words for the text, which is too long for a line.
 pub fn reading_of(words: &[u8], text: &[u8]) {
     let mut room = [0u16; TRIPLETS_ROOM];
     say(b"read ");

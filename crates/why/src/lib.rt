@@ -12,7 +12,7 @@ ghost use Rattle.why.specs.clauses.Keeping.{none_found, Decides, Turned, Keeping
 
 use freeing::some::fix_some;
 use gaps::writing::Found;
-use notation::ceilings::{FLAGS, TRIPLETS_ROOM, VARIABLES};
+use notation::ceilings::{FLAGS, LITERALS, TRIPLETS_ROOM};
 use notation::codes::Code;
 use notation::refusal::{Refusal, fault};
 use reading::parse::parse;
@@ -20,20 +20,11 @@ use search::search;
 use truth::formula::Formula;
 use truth::states::is_state;
 
-// Both signs of each variable.
-const LITERALS: usize = 2 * VARIABLES;
-
 // Whether nothing was found.
 fn is_none(found: Found) -> bool
     ensures { result ≡ none_found found }
 {
-    match found {
-        Found::Done(_) => true,
-        Found::More {
-            written: _,
-            next: _,
-        } => false,
-    }
+    matches!(found, Found::Done(_))
 }
 
 // Whether the formula is false in every state that agrees with `state` on the flags of `keep`: what is left of it with these

@@ -8,7 +8,7 @@ unfolding none_found
 returns-in-Done c =
     rw c.in-Done.is refl
 
-pub returns-in-More : goal.returns-in-More
+pub returns-in_default : goal.returns-in_default
 unfolding none_found
-returns-in-More c =
-    rw c.in-More.is refl
+returns-in_default c =
+    rw c.in_default.is refl
