@@ -1,7 +1,7 @@
 #!/usr/bin/env python3
 """Counts, in the sources of a commit, the places that docs/DESIGN-PASS.md tells of: tools/design_counts.py COMMIT [WHAT].
 
-WHAT is loops, enums, numbers, twins, lists or proofs, and names each place; without it only the counts are printed.
+WHAT is loops, enums, kinds, refusals, twins, lists or proofs, and names each place; without it only the counts are printed.
 """
 import collections
 import re
@@ -94,7 +94,8 @@ def main():
     found = {
         "loops": list(loops(code)),
         "enums": list(enums(code)),
-        "numbers": list(matching(code, KINDS)) + list(matching(code, REFUSALS)),
+        "kinds": list(matching(code, KINDS)),
+        "refusals": list(matching(code, REFUSALS)),
         "twins": twins({path: lines for path, lines in code.items() if path not in tests}),
         "lists": list(lists(code)),
     }

@@ -9,171 +9,112 @@ use reading::name::{Stretch, name, part};
 use reading::parse::Guard;
 use reading::read::read;
 use saturation::verdict::Verdict;
+use std::{fmt, io};
 
-fn say(bytes: &[u8]) {
-    io::write_all(1, bytes);
+// What a service answers where it does not refuse.
+trait Show {
+    fn show<W: fmt::Write>(&self, f: &mut fmt::Formatter<W>) -> fmt::Result;
 }
 
-fn say_number(n: u64) {
-    say(b" ");
-    io::print_decimal(1, n);
-}
-
-fn say_refusal(refusal: Refusal) {
-    say(b" refused");
-    say_number(refusal.number as u64);
-    say_number(refusal.place as u64);
-}
-
-fn say_guard(guard: Guard) {
-    say_number(guard.flags as u64);
-    say_number(guard.count as u64);
-    say_number(guard.root as u64);
-}
-
-fn say_parsed(parsed: Result<Guard, Refusal>) {
-    match parsed {
-        Ok(guard) => say_guard(guard),
-        Err(refusal) => say_refusal(refusal),
+impl Show for Guard {
+    fn show<W: fmt::Write>(&self, f: &mut fmt::Formatter<W>) -> fmt::Result {
+        write!(f, "{} {} {}", self.flags, self.count, self.root)
     }
 }
 
-fn say_room(room: &[u16]) {
-    say(b" :");
-    for number in room {
-        say_number(u64::from(*number));
+impl Show for Stretch {
+    fn show<W: fmt::Write>(&self, f: &mut fmt::Formatter<W>) -> fmt::Result {
+        write!(f, "{} {}", self.start, self.len)
+    }
+}
+
+impl Show for bool {
+    fn show<W: fmt::Write>(&self, f: &mut fmt::Formatter<W>) -> fmt::Result {
+        write!(f, "{}", *self)
+    }
+}
+
+impl Show for Found {
+    fn show<W: fmt::Write>(&self, f: &mut fmt::Formatter<W>) -> fmt::Result {
+        match self {
+            Found::Done(written) => write!(f, "{written} done"),
+            Found::More { written, next } => write!(f, "{written} more {next}"),
+        }
+    }
+}
+
+impl Show for Verdict {
+    fn show<W: fmt::Write>(&self, f: &mut fmt::Formatter<W>) -> fmt::Result {
+        match self {
+            Verdict::Covered => write!(f, "covered"),
+            Verdict::Gap(state) => write!(f, "gap {state}"),
+            Verdict::Undecided => write!(f, "undecided"),
+        }
+    }
+}
+
+// An answer as it is printed.
+#[derive(Drop)]
+struct Shown<T>(Result<T, Refusal>);
+
+impl<T: Show> fmt::Display for Shown<T> {
+    fn fmt<W: fmt::Write>(&self, f: &mut fmt::Formatter<W>) -> fmt::Result {
+        match &self.0 {
+            Ok(answer) => answer.show(f),
+            Err(refusal) => write!(f, "refused {} {}", refusal.number, refusal.place),
+        }
     }
 }
 
 // What read answers with as much room as any guard needs.
-pub fn reading(text: &[u8]) {
-    reading_of(text, text);
+pub fn reading(rt: &impl Print, text: &str) -> io::Result<()> {
+    reading_of(rt, text, text.as_bytes())
 }
 
-// The same with other words for the text, which is too long for a line.
-pub fn reading_of(words: &[u8], text: &[u8]) {
+// The same with words for a text that does not print well, or is too long for a line.
+pub fn reading_of(rt: &impl Print, words: &str, text: &[u8]) -> io::Result<()> {
     let mut room = [0u16; TRIPLETS_ROOM];
-    say(b"read ");
-    say(words);
-    say_parsed(read(text, &mut room));
-    say(b"\n");
+    let answer = Shown(read(text, &mut room));
+    println!(rt; "read {words} {answer}")
 }
 
 // What read answers, and what a lent room of sevens then holds.
-pub fn reading_into(text: &[u8], room: &mut [u16]) {
-    say(b"read ");
-    say(text);
-    say_parsed(read(text, room));
-    say_room(room);
-    say(b"\n");
-}
-
-fn say_named(text: &[u8], named: Result<Stretch, Refusal>) {
-    match named {
-        Ok(Stretch { start, len }) => {
-            say_number(start as u64);
-            say_number(len as u64);
-        }
-        Err(refusal) => say_refusal(refusal),
+pub fn reading_into(rt: &impl Print, text: &str, room: &mut [u16]) -> io::Result<()> {
+    let answer = Shown(read(text.as_bytes(), room));
+    print!(rt; "read {text} {answer} :")?;
+    for number in &*room {
+        print!(rt; " {number}")?;
     }
-    say(b" [");
-    say(part(text, named));
-    say(b"]\n");
+    println!(rt; "")
 }
 
 // What name answers for flag i, and the part of the text in brackets.
-pub fn naming(text: &[u8], i: u64) {
-    say(b"name");
-    say_number(i);
-    say(b" ");
-    say(text);
-    say_named(text, name(text, i));
-}
-
-fn say_value(value: bool) {
-    if value {
-        say(b" true\n");
-        return;
-    }
-    say(b" false\n");
-}
-
-fn say_evaluation(evaluation: Result<bool, Refusal>) {
-    match evaluation {
-        Ok(value) => say_value(value),
-        Err(refusal) => {
-            say_refusal(refusal);
-            say(b"\n");
-        }
-    }
+pub fn naming(rt: &impl Print, text: &str, i: u64) -> io::Result<()> {
+    let named = name(text.as_bytes(), i);
+    let bytes = part(text.as_bytes(), named);
+    let code = str::from_utf8(bytes).unwrap_or("no text");
+    let answer = Shown(named);
+    println!(rt; "name {i} {text} {answer} [{code}]")
 }
 
 // What evaluate answers in a state.
-pub fn evaluating(text: &[u8], state: u64) {
-    say(b"evaluate");
-    say_number(state);
-    say(b" ");
-    say(text);
-    say_evaluation(evaluate(text, state));
-}
-
-fn say_found(found: Found) {
-    match found {
-        Found::Done(written) => {
-            say_number(written as u64);
-            say(b" done");
-        }
-        Found::More { written, next } => {
-            say_number(written as u64);
-            say(b" more");
-            say_number(next);
-        }
-    }
-}
-
-fn say_listing(listing: Result<Found, Refusal>) {
-    match listing {
-        Ok(found) => say_found(found),
-        Err(refusal) => say_refusal(refusal),
-    }
-}
-
-fn say_states(out: &[u32]) {
-    say(b" :");
-    for state in out {
-        say_number(u64::from(*state));
-    }
+pub fn evaluating(rt: &impl Print, text: &str, state: u64) -> io::Result<()> {
+    let answer = Shown(evaluate(text.as_bytes(), state));
+    println!(rt; "evaluate {state} {text} {answer}")
 }
 
 // What list answers from a start on, and what a lent slice of nines then holds.
-pub fn listing(text: &[u8], start: u64, out: &mut [u32]) {
-    say(b"list");
-    say_number(start);
-    say(b" ");
-    say(text);
-    say_listing(list(text, start, out));
-    say_states(out);
-    say(b"\n");
-}
-
-fn say_verdict(verdict: Result<Verdict, Refusal>) {
-    match verdict {
-        Ok(Verdict::Covered) => say(b" covered"),
-        Ok(Verdict::Gap(state)) => {
-            say(b" gap");
-            say_number(state);
-        }
-        Ok(Verdict::Undecided) => say(b" undecided"),
-        Err(refusal) => say_refusal(refusal),
+pub fn listing(rt: &impl Print, text: &str, start: u64, out: &mut [u32]) -> io::Result<()> {
+    let answer = Shown(list(text.as_bytes(), start, out));
+    print!(rt; "list {start} {text} {answer} :")?;
+    for state in &*out {
+        print!(rt; " {state}")?;
     }
+    println!(rt; "")
 }
 
 // What check answers at a depth.
-pub fn checking(text: &[u8], depth: u64) {
-    say(b"check");
-    say_number(depth);
-    say(b" ");
-    say(text);
-    say_verdict(check(text, depth));
-    say(b"\n");
+pub fn checking(rt: &impl Print, text: &str, depth: u64) -> io::Result<()> {
+    let answer = Shown(check(text.as_bytes(), depth));
+    println!(rt; "check {depth} {text} {answer}")
 }
