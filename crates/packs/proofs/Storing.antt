@@ -1,14 +1,13 @@
--- What storing leaves in the pool and in the table of spans.
-use Prim.Native.Nat.{ℕ, ◌+◌, ◌*◌, ◌≤◌, ◌<◌}
+-- What storing leaves in the table of spans.
+use Prim.Native.Nat.{ℕ, ◌+◌, ◌*◌, ◌≤◌}
 use native.Mathlib.Omega.{arith}
-use native.Mathlib.Numerals.{add-one}
-use mathlib.Core.Path.{◌≡◌, ap, ◌∙◌}
-use mathlib.Core.List.{List, ◌++◌, append_assoc}
-use lib.ListN.{length, get_or, take, drop, set, length-set}
-use lib.Seq.{get_or-set_same, get_or-set_other, paste, paste-suc, take_at, drop_at, length-take-le}
+use mathlib.Core.Path.{◌≡◌, ◌∙◌}
+use mathlib.Core.List.{List}
+use lib.ListN.{length, set, length-set}
+use lib.Seq.{get_or-set_same, get_or-set_other}
 use Rattle.questions.specs.Questions.{variant_ceiling}
 use Rattle.questions.specs.clauses.Laying.{spans_room}
-use Rattle.packs.specs.clauses.Taken.{Kept, Noted, NotedText}
+use Rattle.packs.specs.clauses.Taken.{Noted, NotedText}
 
 module _ (spans : List ℕ) (k : ℕ) (full : length spans ≡ spans_room) (most : k ≤ variant_ceiling) where
   module _ (o c r : ℕ) where
@@ -44,22 +43,3 @@ module _ (spans : List ℕ) (k : ℕ) (full : length spans ≡ spans_room) (most
       after = get_or-set_same (set spans (5 * k + 3) s) (5 * k + 4) e 0 (simp length-set (omega arith));
       rest = λ i x y. get_or-set_other (set spans (5 * k + 3) s) (5 * k + 4) i e 0 y ∙ get_or-set_other spans (5 * k + 3) i s 0 x;
     }
-
--- a copy behind what stands in the pool
-pub kept-paste : (from pool : List ℕ) (count total : ℕ) → 3 * count ≤ length from → 3 * total ≤ length pool
-    → Kept from count total pool (paste pool (3 * total) from (3 * count))
-kept-paste from pool count total a b =
-    let front : length (take (3 * total) pool) ≡ 3 * total = length-take-le (3 * total) pool b in
-    let new : length (take (3 * count) from) ≡ 3 * count = length-take-le (3 * count) from a in
-    let split : paste pool (3 * total) from (3 * count) ≡ take (3 * total) pool ++ (take (3 * count) from ++ drop (3 * total + 3 * count) pool)
-    = append_assoc (take (3 * total) pool) (take (3 * count) from) (drop (3 * total + 3 * count) pool) in
-    record {
-      before = rw split (take_at (take (3 * total) pool) (take (3 * count) from ++ drop (3 * total + 3 * count) pool) (3 * total) front);
-      there =
-          ap (take (3 * count)) (rw split (drop_at (take (3 * total) pool) (take (3 * count) from ++ drop (3 * total + 3 * count) pool) (3 * total) front))
-          ∙ take_at (take (3 * count) from) (drop (3 * total + 3 * count) pool) (3 * count) new;
-    }
-
-pub paste_more : (pool from : List ℕ) (at i : ℕ) → at + i < length pool → i < length from
-    → set (paste pool at from i) (at + i) (get_or from i 0) ≡ paste pool at from (i + 1)
-paste_more pool from at i a b = rw add-one (paste-suc pool at from i 0 a b)

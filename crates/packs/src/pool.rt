@@ -23,12 +23,9 @@ pub fn keep(
     if CONNECTIVES < total + count {
         return;
     }
-    let mut i: usize = 0;
-    while i < 3 * count {
-        let x = from[i];
-        pool[3 * total + i] = x;
-        i += 1;
-    }
+    let start = 3 * total;
+    let len = 3 * count;
+    pool[start..start + len].copy_from_slice(&from[0..len]);
 }
 
 // Notes where guard k stands in the pool: behind how many triplets, how many of its own it has, and its root.

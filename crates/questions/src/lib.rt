@@ -83,12 +83,10 @@ fn lay_others(
 {
     let mut count = first.count;
     let mut root = first.root;
-    let mut k: usize = 2;
-    while k <= variants {
+    for k in 2..variants + 1 {
         let right = lay_guard(pool, spans, k, out, count);
         root = tie(out, right.count, Connective::Or, root, right.root);
         count = right.count + 1;
-        k += 1;
     }
     Built { count, root }
 }
