@@ -7,6 +7,7 @@ use mathlib.Core.List.{List, [], ◌∷◌, ◌++◌, map}
 use mathlib.Core.Logic.{⊎_elim}
 use lib.ListN.{length, get_or, take, drop, set, length-drop, length-map, get_or-map}
 use lib.Seq.{paste, paste-suc, take-paste, get_or-drop, get_or-take}
+use Rattle.std.proofs.lemmas.List.Edits.{length-paste}
 use Rattle.ground.proofs.Cases.{lt-or-ge}
 use Rattle.notation.specs.Ceilings.{flag_ceiling, connective_ceiling}
 use Rattle.notation.specs.Tokens.{Sign, same, implies, or, and}
@@ -145,18 +146,17 @@ each-small pool out off count before i a b =
     (lt-or-ge (i % 3) 1)
 
 -- all of them
-pub copied : (pool out out' : List ℕ) (off count before : ℕ) → CopyAsks pool off count out before → length out' ≡ length out
+pub copied : (pool out out' : List ℕ) (off count before : ℕ) → CopyAsks pool off count out before
     → out' ≡ paste out (3 * before) (map (moved before) (drop (3 * off) pool)) (3 * count) → Copied pool off count out before out'
-copied pool out out' off count before a n e =
+copied pool out out' off count before a e =
     let s : List ℕ = map (moved before) (drop (3 * off) pool) in
     let long : length s ≡ length (drop (3 * off) pool) = length-map (drop (3 * off) pool) (moved before) in
+    let enough : 3 * count ≤ length s = omega (arith, long, length-drop (3 * off) pool, a.stands, a.table) in
     let sum : 3 * (before + count) ≡ 3 * before + 3 * count = omega arith in
     record {
-      room = n ∙ a.room;
+      room = rw e (length-paste out (3 * before) s (3 * count) (omega (arith, a.room, a.fits)) enough) ∙ a.room;
       written =
-          rw (e, sum)
-          (take-paste out (3 * before) s (3 * count) (omega (arith, a.room, a.fits))
-          (omega (arith, long, length-drop (3 * off) pool, a.stands, a.table)))
+          rw (e, sum) (take-paste out (3 * before) s (3 * count) (omega (arith, a.room, a.fits)) enough)
           ∙ ap (λ (x : List ℕ). take (3 * before) out ++ x) (take-map (moved before) (3 * count) (drop (3 * off) pool));
     }
 

@@ -25,7 +25,7 @@ fn moved(literal: u16, before: usize) -> u16
     literal + (2 * before) as u16
 }
 
-// From this many triplets on a copy number by number costs less.
+// There are two copies for speed: from this many triplets on one that goes number by number costs less.
 const MANY: usize = 6;
 
 // Copies few triplets of a guard behind `before` others, kind, y and z at a step, since a kind wants no test.
@@ -39,8 +39,7 @@ fn copy_few(
     requires { CopyAsks pool.now off count out.old before }
     ensures { Copied pool.now off count out.old before out.new }
 {
-    let mut j: usize = 0;
-    while j < count {
+    for j in 0..count {
         let from = 3 * (off + j);
         let to = 3 * (before + j);
         out[to] = pool[from];
@@ -48,7 +47,6 @@ fn copy_few(
         out[to + 1] = y;
         let z = moved(pool[from + 2], before);
         out[to + 2] = z;
-        j += 1;
     }
 }
 
@@ -63,11 +61,9 @@ fn copy_many(
     requires { CopyAsks pool.now off count out.old before }
     ensures { Copied pool.now off count out.old before out.new }
 {
-    let mut i: usize = 0;
-    while i < 3 * count {
+    for i in 0..3 * count {
         let number = moved(pool[3 * off + i], before);
         out[3 * before + i] = number;
-        i += 1;
     }
 }
 

@@ -1,14 +1,22 @@
-// The numbers of a guard in the table of spans.
+// Where a guard of a line stands.
 
-// How many they are.
-pub const SPAN: usize = 5;
+// Its triplets stand in the pool behind `off` others; how many they are, and its root. Where its text starts and ends in the pack.
+#[derive(Clone, Copy)]
+pub struct GuardSpan {
+    pub off: usize,
+    pub count: usize,
+    pub root: u16,
+    pub text_start: usize,
+    pub text_end: usize,
+}
 
-// The first is where the guard's triplets start in the pool. Then how many they are, and its root.
-pub const COUNT: usize = 1;
-
-pub const ROOT: usize = 2;
-
-// Where its text starts and ends.
-pub const START: usize = 3;
-
-pub const AFTER: usize = 4;
+impl GuardSpan {
+    // What a table holds where no guard has been noted.
+    pub const NONE: GuardSpan = GuardSpan {
+        off: 0,
+        count: 0,
+        root: 0,
+        text_start: 0,
+        text_end: 0,
+    };
+}

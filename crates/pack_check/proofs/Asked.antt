@@ -15,6 +15,7 @@ use Rattle.saturation.specs.declared.verdict.Verdict.{Verdict}
 use Rattle.saturation.specs.declared.verdict.Verdict.TheVariants.{Covered, Gap, Undecided}
 use Rattle.guard_check.specs.clauses.Deciding.{FromGuard, Decided}
 use Rattle.guard_check.proofs.Tables.{of_guard}
+use Rattle.building.specs.declared.spans.GuardSpan.{GuardSpan}
 use Rattle.questions.specs.Questions.{whole_of, pair_of}
 use Rattle.questions.specs.clauses.Laying.{PairLaid, WholeLaid}
 use Rattle.questions.specs.declared.Built.{Built}
@@ -41,7 +42,7 @@ module _ (n c root : ℕ) (g : Guard) (out out' : List ℕ) (few : n ≤ flag_ce
   laid-says : (depth : ℕ) (r : Verdict) → Decided out' c n root depth r → Checked n g depth r
   laid-says depth r a = of_guard out' c n root g begun depth r a
 
-module _ (pool spans : List ℕ) (n variants : ℕ) (out out' : List ℕ) (b : Built) where
+module _ (pool : List ℕ) (spans : List GuardSpan) (n variants : ℕ) (out out' : List ℕ) (b : Built) where
   -- the whole question can be decided, and what is decided is its answer
   pub whole-asks : WholeLaid pool spans variants out out' b → Stands pool spans n variants → FromGuard out' b.count n b.root
   whole-asks w s =

@@ -10,6 +10,7 @@ use Rattle.notation.specs.Ceilings.{connective_ceiling}
 use Rattle.notation.specs.Refusals.{fault}
 use Rattle.notation.specs.declared.refusal.Refusal.{Refusal}
 use Rattle.guard_check.specs.Check.{depth_ceiling}
+use Rattle.building.specs.declared.spans.GuardSpan.{GuardSpan}
 use Rattle.questions.specs.clauses.Laying.{LineHeld, spans_room}
 use Rattle.packs.specs.Pack as pack
 use Rattle.packs.specs.Pack.{PackReading, refusal, line, pack_read}
@@ -37,7 +38,8 @@ pub too-deep : (file : List ℕ) (depth : ℕ) → depth_ceiling < depth → (f 
 too-deep file depth d f e = says file depth (refusal (fault 2 0)) _ (asks-deep file depth d) (ap Err e)
 
 -- the refusal that reading answered is that of the pack
-refusal-found : (file : List ℕ) (x : PackReading) (r : Pack) (codes : List Code) (pool spans : List ℕ) → PackSays file x r codes pool spans → (f : Refusal)
+refusal-found : (file : List ℕ) (x : PackReading) (r : Pack) (codes : List Code) (pool : List ℕ) (spans : List GuardSpan)
+    → PackSays file x r codes pool spans → (f : Refusal)
     → r ≡ Err f → x ≡ refusal f
 refusal-found file (refusal h) r codes pool spans s f e =
     let a : r ≡ Err h = s in
@@ -48,7 +50,7 @@ refusal-found file (line l) r codes pool spans s f e =
     let z : ◌≡◌ {A = ℕ} 0 1 = cc in absurd (omega arith)
 
 -- the line that reading found is that of the pack
-pub record LineFound (file : List ℕ) (x : PackReading) (found : Line) (pool spans : List ℕ) : Type 0 where
+pub record LineFound (file : List ℕ) (x : PackReading) (found : Line) (pool : List ℕ) (spans : List GuardSpan) : Type 0 where
   pub its : pack.Line
   pub says : x ≡ line its
   pub flags : found.flags ≡ length its.flags
@@ -56,7 +58,8 @@ pub record LineFound (file : List ℕ) (x : PackReading) (found : Line) (pool sp
   pub held : LineHeld (length its.flags) its.rule its.variants spans pool
   pub rooms : (length pool ≡ 3 * connective_ceiling) × (length spans ≡ spans_room)
 
-pub line-found : (file : List ℕ) (x : PackReading) (r : Pack) (codes : List Code) (pool spans : List ℕ) → PackSays file x r codes pool spans → (found : Line)
+pub line-found : (file : List ℕ) (x : PackReading) (r : Pack) (codes : List Code) (pool : List ℕ) (spans : List GuardSpan)
+    → PackSays file x r codes pool spans → (found : Line)
     → r ≡ Ok found → LineFound file x found pool spans
 line-found file (refusal h) r codes pool spans s found e =
     let a : r ≡ Err h = s in
@@ -74,7 +77,7 @@ line-found file (line l) r codes pool spans s found e =
     }
 
 -- its guards stand in the pool
-pub found-stands : (file : List ℕ) (x : PackReading) (found : Line) (pool spans : List ℕ) → LineFound file x found pool spans
+pub found-stands : (file : List ℕ) (x : PackReading) (found : Line) (pool : List ℕ) (spans : List GuardSpan) → LineFound file x found pool spans
     → Stands pool spans found.flags found.variants
 found-stands file x found pool spans f =
     record {
@@ -86,13 +89,13 @@ found-stands file x found pool spans f =
 
 module _ (file : List ℕ) (depth : ℕ) (d : depth ≤ depth_ceiling) where
   -- a refusal of the pack is passed on
-  pub refused-too : (r : Pack) (codes : List Code) (pool spans : List ℕ) → PackSays file (pack_read file) r codes pool spans → (f : Refusal)
+  pub refused-too : (r : Pack) (codes : List Code) (pool : List ℕ) (spans : List GuardSpan) → PackSays file (pack_read file) r codes pool spans → (f : Refusal)
       → r ≡ Err f → PackChecked file depth (Err f)
   refused-too r codes pool spans s f e =
       says file depth (refusal f) _ (asks-pack file depth d ∙ refusal-found file (pack_read file) r codes pool spans s f e) refl
 
   -- what is answered of the line in the pool is what the pack says
-  pub line-too : (found : Line) (pool spans : List ℕ) → LineFound file (pack_read file) found pool spans → (v : LineVerdict)
+  pub line-too : (found : Line) (pool : List ℕ) (spans : List GuardSpan) → LineFound file (pack_read file) found pool spans → (v : LineVerdict)
       → LineAnswered pool spans found.flags found.variants depth v → PackChecked file depth (Ok v)
   line-too found pool spans f v a =
       let held : LineHeld found.flags f.its.rule f.its.variants spans pool = rw f.flags f.held in

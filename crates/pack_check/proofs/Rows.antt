@@ -7,11 +7,12 @@ use native.Mathlib.Omega.{arith}
 use Rattle.ground.proofs.Cases.{lt-or-ge}
 use Rattle.saturation.specs.declared.verdict.Verdict.{Verdict}
 use Rattle.saturation.specs.declared.verdict.Verdict.TheVariants.{Covered}
+use Rattle.building.specs.declared.spans.GuardSpan.{GuardSpan}
 use Rattle.pack_check.specs.clauses.Asking.{PairAnswered, RowCovered, RowFound, RowAnswered, RowsCovered, PairsAnswered}
 use Rattle.pack_check.specs.declared.verdict.Overlap.{Overlap}
 use Rattle.std.specs.Prelude.{Option, Some, None}
 
-module _ (pool spans : List ℕ) (n variants depth : ℕ) where
+module _ (pool : List ℕ) (spans : List GuardSpan) (n variants depth : ℕ) where
   -- no pair of variant i stands before the one after it
   pub row-begins : (i : ℕ) → RowCovered pool spans n variants depth i (i + 1)
   row-begins i b h l = absurd (omega arith)

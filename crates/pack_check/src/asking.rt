@@ -4,9 +4,10 @@ ghost use Rattle.questions.specs.clauses.Laying.{Rooms};
 ghost use Rattle.pack_check.specs.clauses.Asking.{is_open, Stands, WholeAnswered, PairAnswered, RowAnswered, PairsAnswered};
 
 use crate::verdict::Overlap;
+use building::spans::GuardSpan;
 use guard_check::answer::answer;
 use notation::ceilings::TRIPLETS_ROOM;
-use questions::{SPANS_ROOM, lay_pair, lay_whole};
+use questions::{GUARDS, lay_pair, lay_whole};
 use saturation::verdict::Verdict;
 use truth::formula::Formula;
 
@@ -20,7 +21,7 @@ fn is_open(verdict: Verdict) -> bool
 // Whether a variant is there in every state of the rule.
 pub fn ask_whole(
     pool: &[u16; TRIPLETS_ROOM],
-    spans: &[usize; SPANS_ROOM],
+    spans: &[GuardSpan; GUARDS],
     flags: usize,
     variants: usize,
     depth: u64,
@@ -44,7 +45,7 @@ pub fn ask_whole(
 // Whether the variants i and j exclude each other.
 fn ask_pair(
     pool: &[u16; TRIPLETS_ROOM],
-    spans: &[usize; SPANS_ROOM],
+    spans: &[GuardSpan; GUARDS],
     flags: usize,
     variants: usize,
     i: usize,
@@ -71,7 +72,7 @@ fn ask_pair(
 // The first variant after variant i that does not exclude it.
 fn ask_row(
     pool: &[u16; TRIPLETS_ROOM],
-    spans: &[usize; SPANS_ROOM],
+    spans: &[GuardSpan; GUARDS],
     flags: usize,
     variants: usize,
     i: usize,
@@ -100,7 +101,7 @@ fn ask_row(
 // The first pair, by its first variant and then its second.
 pub fn ask_pairs(
     pool: &[u16; TRIPLETS_ROOM],
-    spans: &[usize; SPANS_ROOM],
+    spans: &[GuardSpan; GUARDS],
     flags: usize,
     variants: usize,
     depth: u64,

@@ -7,17 +7,18 @@ ghost use Rattle.pack_check.specs.clauses.Asking.{Stands, LineAnswered};
 
 use crate::asking::{ask_pairs, ask_whole};
 use crate::verdict::LineVerdict;
+use building::spans::GuardSpan;
 use guard_check::check::DEPTH;
 use notation::ceilings::{FLAGS, TRIPLETS_ROOM};
 use notation::codes::Code;
 use notation::refusal::{Refusal, fault};
 use packs::read::read_pack;
-use questions::SPANS_ROOM;
+use questions::GUARDS;
 
 // Both answers for the line whose guards stand in the pool.
 fn answered(
     pool: &[u16; TRIPLETS_ROOM],
-    spans: &[usize; SPANS_ROOM],
+    spans: &[GuardSpan; GUARDS],
     flags: usize,
     variants: usize,
     depth: u64,
@@ -41,7 +42,7 @@ pub fn check_pack(pack: &[u8], depth: u64) -> Result<LineVerdict, Refusal>
     }
     let mut codes = [Code::NONE; FLAGS];
     let mut pool = [0u16; TRIPLETS_ROOM];
-    let mut spans = [0usize; SPANS_ROOM];
+    let mut spans = [GuardSpan::NONE; GUARDS];
     let line = read_pack(pack, &mut codes, &mut pool, &mut spans)?;
     let verdict = answered(&pool, &spans, line.flags, line.variants, depth);
     Ok(verdict)

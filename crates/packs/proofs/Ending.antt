@@ -26,6 +26,7 @@ use Rattle.fields.specs.clauses.Here.{FieldHere, FieldSays}
 use Rattle.fields.specs.declared.Field.{Field}
 use Rattle.fields.specs.declared.Field.TheVariants as field
 use Rattle.fields.proofs.Pieced.{here}
+use Rattle.building.specs.declared.spans.GuardSpan.{GuardSpan}
 use Rattle.building.specs.clauses.Held.{Held, off_at, count_at, root_at}
 use Rattle.questions.specs.Questions.{questions_of, all_fit, sum_of}
 use Rattle.questions.proofs.Connectives.{questions-fit}
@@ -53,7 +54,7 @@ ends_there file at h =
     not_end true x y z q = let w : ◌≡◌ {A = ℕ} 0 1 = cc in omega arith
     not_end false x y z q = let w : ◌≡◌ {A = ℕ} 0 1 = cc in omega arith
 
-end_by : (file : List ℕ) (codes : List Code) (pool spans : List ℕ) (p : Progress) (g : Going file codes pool spans p) → length file ≤ p.at →
+end_by : (file : List ℕ) (codes : List Code) (pool : List ℕ) (spans : List GuardSpan) (p : Progress) (g : Going file codes pool spans p) → length file ≤ p.at →
     (d : Due) → p.due ≡ d
     → fields_say file ≡ end_as d g.line p.at → StepSays file p (end_step d p.at) codes pool spans
 unfolding end_as
@@ -64,7 +65,7 @@ end_by file codes pool spans p g b due.Text x m = m
 end_by file codes pool spans p g b due.VariantOrEnd x m =
     record { line = g.line; taken = g.taken; due = x; means = m; ends = omega (arith, g.taken.inside) }
 
-module _ (file : List ℕ) (codes : List Code) (pool spans : List ℕ) (p : Progress) (g : Going file codes pool spans p) (f : Field)
+module _ (file : List ℕ) (codes : List Code) (pool : List ℕ) (spans : List GuardSpan) (p : Progress) (g : Going file codes pool spans p) (f : Field)
     (q : f ≡ field_at file p.at) where
   says : FieldSays file p.at f
   says = rw q (here file p.at g.taken.inside)
@@ -82,7 +83,7 @@ module _ (file : List ℕ) (codes : List Code) (pool spans : List ℕ) (p : Prog
   end-says h = end_by file codes pool spans p g (ends_there file p.at (sym q ∙ h)) p.due refl (at-end h)
 
 -- ---- the line at the end
-module _ (file : List ℕ) (codes : List Code) (pool spans : List ℕ) (p : Progress) (w : Whole file codes pool spans p) where
+module _ (file : List ℕ) (codes : List Code) (pool : List ℕ) (spans : List GuardSpan) (p : Progress) (w : Whole file codes pool spans p) where
   last : Stage due.VariantOrEnd w.line
   last = rw w.due at w.taken.stage
 
@@ -129,7 +130,7 @@ module _ (file : List ℕ) (codes : List Code) (pool spans : List ℕ) (p : Prog
   line-says h r q = rw (w.means, fit, le-leb (p.total + p.variants) connective_ceiling h) (line_read h r q)
 
 -- ---- the start, and a refusal on the way
-pub starts : (file : List ℕ) (codes : List Code) (pool spans spans' : List ℕ) → Rooms codes pool spans → Noted 0 0 0 0 spans spans'
+pub starts : (file : List ℕ) (codes : List Code) (pool : List ℕ) (spans spans' : List GuardSpan) → Rooms codes pool spans → Noted 0 0 0 0 spans spans'
     → Going file codes pool spans' (further_to 0 due.Id 0 0 0)
 unfolding connectives flags_in sum_of literal triplets numbers
 starts file codes pool spans spans' o w = record {
@@ -155,13 +156,13 @@ starts file codes pool spans spans' o w = record {
     first zero b = record { within = tt; count = w.count; root = w.root; inside = omega (arith, w.off); stands = refl }
     first (suc k) b = absurd (omega arith)
 
-pub refused_says : (file : List ℕ) (codes : List Code) (pool spans : List ℕ) (f : Refusal) → fields_say file ≡ refusal f
+pub refused_says : (file : List ℕ) (codes : List Code) (pool : List ℕ) (spans : List GuardSpan) (f : Refusal) → fields_say file ≡ refusal f
     → PackSays file (pack_read file) (Err f) codes pool spans
 unfolding pack_read fitting
 refused_says file codes pool spans f h = rw h refl
 
 -- ---- a step's answer taken apart
-module _ (file : List ℕ) (p : Progress) (r : Step) (codes : List Code) (pool spans : List ℕ) (h : StepSays file p r codes pool spans) where
+module _ (file : List ℕ) (p : Progress) (r : Step) (codes : List Code) (pool : List ℕ) (spans : List GuardSpan) (h : StepSays file p r codes pool spans) where
   pub on_of : (q : Progress) → r ≡ (Ok (Some q)) → Going file codes pool spans q × (p.at < q.at)
   on_of q x = rw x at h
 

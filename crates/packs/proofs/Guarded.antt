@@ -21,12 +21,14 @@ use Rattle.notation.specs.Refusals.{fault}
 use Rattle.reading.specs.clauses.Parsing.{ParseSays}
 use Rattle.reading.specs.declared.parse.Guard as numbers
 use Rattle.reading.specs.Service.{Parsed}
+use Rattle.building.specs.declared.spans.GuardSpan.{GuardSpan}
 use Rattle.packs.specs.clauses.Taken.{KeepSays, Noted}
 use Rattle.packs.specs.clauses.Says.{GuardAsks, GuardTaken, GuardTakenSays}
 use Rattle.packs.proofs.Longer.{fewer}
 
 -- ---- what the answer says
-module _ (file : List ℕ) (e row total : ℕ) (r : Parsed) (pool spans : List ℕ) (codes' : List Code) (pool' spans' : List ℕ) where
+module _ (file : List ℕ) (e row total : ℕ) (r : Parsed) (pool : List ℕ) (spans : List GuardSpan) (codes' : List Code)
+    (pool' : List ℕ) (spans' : List GuardSpan) where
   abbrev pub Answers : Reading → Type 0
   Answers R = GuardTakenSays R file e row total r pool spans codes' pool' spans'
 
@@ -62,7 +64,8 @@ module _ (file : List ℕ) (e row total : ℕ) (r : Parsed) (pool spans : List �
 
 -- ---- what reading it does
 -- what the reader of a guard asks, from any place of it before its end, and with any of the codes seen
-pub parse-asks : (file : List ℕ) (s e flags total row : ℕ) (codes : List Code) (pool spans : List ℕ) → GuardAsks file s e flags total row codes pool spans
+pub parse-asks : (file : List ℕ) (s e flags total row : ℕ) (codes : List Code) (pool : List ℕ) (spans : List GuardSpan)
+    → GuardAsks file s e flags total row codes pool spans
     → (from : ℕ) → from ≤ s → (n : ℕ) → n ≤ flags
     → ((length codes ≡ codes_room) × (◌≡◌ {A = ℕ} (3 * connective_ceiling) (3 * connective_ceiling)))
     × (((from ≤ length (take (e - 0) file)) × (n ≤ flag_ceiling)) × InText (take (e - 0) file) codes n)
@@ -81,7 +84,7 @@ module _ (file : List ℕ) (e row total s n : ℕ) (codes codes' : List Code) (o
       let count : q.count ≡ connectives g = ap (λ (y : numbers.Guard). y.count) same in
       (omega (arith, h.short), h.room)
 
-  module _ (pool spans pool' spans' : List ℕ) where
+  module _ (pool : List ℕ) (spans : List GuardSpan) (pool' : List ℕ) (spans' : List GuardSpan) where
     refused-taken : (R : Reading) → ParseSays (take e file) R r codes' out → (f : Refusal) → r ≡ Err f
         → GuardTakenSays R file e row total r pool spans codes' pool' spans'
     refused-taken (read.refusal k d) h f x = h

@@ -1,5 +1,4 @@
 pub mod Longer
-pub mod Storing
 pub mod Stages
 pub mod Held
 pub mod Further

@@ -16,6 +16,7 @@ use Rattle.notation.specs.Refusals.{fault}
 use Rattle.notation.specs.declared.refusal.Refusal.{Refusal}
 use Rattle.reading.specs.declared.parse.Guard as numbers
 use Rattle.reading.specs.Service.{Parsed}
+use Rattle.building.specs.declared.spans.GuardSpan.{GuardSpan}
 use Rattle.questions.specs.Questions.{variant_ceiling}
 use Rattle.packs.specs.Pack.{refusal, refused, guard_in, ruled, varied, texted, step_as, fields_say, id_ceiling}
 use Rattle.packs.specs.clauses.Taken.{guard_ceiling, NotedText}
@@ -30,7 +31,8 @@ use Rattle.packs.proofs.Stages.{wrong-step, empty-step, long-step, full-step, ru
 use Rattle.packs.proofs.Taking.{further_to, taken_refused, taken-id, taken-text, taken-rule, taken-variant}
 use Rattle.packs.proofs.Guarded.{says-refused, says-guard}
 
-module _ (file : List ℕ) (codes : List Code) (pool spans : List ℕ) (p : Progress) (ro : Role) (s e : ℕ) (a : StepAsks file codes pool spans p ro s e) where
+module _ (file : List ℕ) (codes : List Code) (pool : List ℕ) (spans : List GuardSpan) (p : Progress) (ro : Role) (s e : ℕ)
+    (a : StepAsks file codes pool spans p ro s e) where
   onward : p.at < e
   onward = omega (arith, a.field.here.starts, a.field.here.later)
 
@@ -61,12 +63,12 @@ module _ (file : List ℕ) (codes : List Code) (pool spans : List ℕ) (p : Prog
   adds c h = omega (arith, a.going.taken.small, a.going.taken.most)
 
 -- the numbers of the guard that was read are the tree's
-on-as : (file : List ℕ) (p : Progress) (e : ℕ) (d : Due) (v n n' c c' : ℕ) (codes : List Code) (pool spans : List ℕ) → n ≡ n' → c ≡ c'
+on-as : (file : List ℕ) (p : Progress) (e : ℕ) (d : Due) (v n n' c c' : ℕ) (codes : List Code) (pool : List ℕ) (spans : List GuardSpan) → n ≡ n' → c ≡ c'
     → StepSays file p (Ok (Some (further_to e d n' v (p.total + c')))) codes pool spans
     → StepSays file p (Ok (Some (further_to e d n v (p.total + c)))) codes pool spans
 on-as file p e d v n n' c c' codes pool spans x y h = rw (x, y) h
 
-module _ (file : List ℕ) (codes : List Code) (pool spans : List ℕ) (p : Progress) (s e : ℕ) where
+module _ (file : List ℕ) (codes : List Code) (pool : List ℕ) (spans : List GuardSpan) (p : Progress) (s e : ℕ) where
   pub wrong-says : StepAsks file codes pool spans p is.Wrong s e → fields_say file ≡ refusal (fault 13 p.at)
   wrong-says a = refuses file codes pool spans p is.Wrong s e a (fault 13 p.at) (wrong-step file a.going.line p.at s e)
 
@@ -91,7 +93,7 @@ module _ (file : List ℕ) (codes : List Code) (pool spans : List ℕ) (p : Prog
         some : (e - s ≡ 0 → ⊥) → 0 < e - s
         some m = ⊎_elim (λ (z : 0 < e - s). z) (λ (z : e - s ≤ 0). absurd (m (omega arith))) (lt-or-ge 0 (e - s))
 
-  module _ (a : StepAsks file codes pool spans p is.Text s e) (spans' : List ℕ) (w : NotedText p.variants s e spans spans') where
+  module _ (a : StepAsks file codes pool spans p is.Text s e) (spans' : List GuardSpan) (w : NotedText p.variants s e spans spans') where
     pub text_says : StepSays file p (Ok (Some (further_to e due.VariantOrEnd p.flags p.variants p.total))) codes pool spans'
     text_says = (
       record {
@@ -102,7 +104,7 @@ module _ (file : List ℕ) (codes : List Code) (pool spans : List ℕ) (p : Prog
       onward file codes pool spans p is.Text s e a,
     )
 
-  module _ (r : Parsed) (codes' : List Code) (pool' spans' : List ℕ) where
+  module _ (r : Parsed) (codes' : List Code) (pool' : List ℕ) (spans' : List GuardSpan) where
     -- what reading the guard of this field answered, as guard `row` of the line
     abbrev Read : ℕ → Type 0
     Read row =

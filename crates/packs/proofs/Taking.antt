@@ -1,6 +1,6 @@
 -- The reader of a pack, one field further: what it holds stays true of the line with that field.
 use Rattle.std.specs.Prelude.{}
-use Prim.Native.Nat.{ℕ, zero, suc, ◌+◌, ◌-◌, ◌*◌, ◌≤◌, ◌<◌}
+use Prim.Native.Nat.{ℕ, zero, suc, ◌+◌, ◌-◌, ◌≤◌, ◌<◌}
 use native.Mathlib.Nat.{not-suc-le-zero, eq-or-lt_of_le}
 use native.Mathlib.Omega.{arith}
 use mathlib.Core.Path.{◌≡◌, refl, sym, ap, ◌∙◌}
@@ -21,6 +21,7 @@ use Rattle.reading.specs.clauses.Parsing.{GuardRead}
 use Rattle.reading.specs.Service.{Parsed}
 use Rattle.fields.specs.Fields.{header, pieces_at}
 use Rattle.fields.specs.clauses.Here.{FieldHere}
+use Rattle.building.specs.declared.spans.GuardSpan.{GuardSpan}
 use Rattle.building.specs.clauses.Held.{Held, HeldAt, off_at, count_at, root_at, text_at}
 use Rattle.questions.specs.Questions.{variant_ceiling, sum_of, guard_at}
 use Rattle.packs.specs.Pack.{Line, refusal, role_of, Next, refused, on, guard_in, ruled, varied, texted, step_as, pack_from, fields_say, id_ceiling}
@@ -39,8 +40,8 @@ use Rattle.packs.proofs.Stages.{id-step, rule-step, variant_step, text-step, sta
 abbrev pub further_to : ℕ → Due → ℕ → ℕ → ℕ → Progress
 further_to e d n v t = record { at = e; due = d; flags = n; variants = v; total = t }
 
-module _ (file : List ℕ) (codes : List Code) (pool spans : List ℕ) (p : Progress) (l : Line) (t : Taken file codes pool spans p l) (tag s e : ℕ)
-    (f : FieldHere file p.at tag s e) where
+module _ (file : List ℕ) (codes : List Code) (pool : List ℕ) (spans : List GuardSpan) (p : Progress) (l : Line)
+    (t : Taken file codes pool spans p l) (tag s e : ℕ) (f : FieldHere file p.at tag s e) where
   at-s : (n : Next) (r : Role) → role_of p.due tag ≡ r → step_as r file l p.at s e ≡ n
       → step_as (role_of p.due tag) file l p.at (p.at + header) e ≡ n
   at-s n r q h = rw (q, sym f.starts) h
@@ -76,29 +77,18 @@ module _ (file : List ℕ) (codes : List Code) (pool spans : List ℕ) (p : Prog
   }
 
   -- one more text
-  module _ (spans' : List ℕ) (w : NotedText p.variants s e spans spans') where
+  module _ (spans' : List GuardSpan) (w : NotedText p.variants s e spans spans') where
     text-here : (k : ℕ) → p.variants ≡ suc k → k ≡ length l.texts → text_at spans' (suc k) ≡ get_or (texted l s e).texts k nowhere
-    text-here k a b = rw (sym a, w.start, w.after) (sym (get_or_at l.texts (record { start = s; after = e }) [] nowhere k (sym b)))
-
-    -- what is no text's number stays
-    same : (k i : ℕ) → i < 3 → get_or spans' (5 * k + i) 0 ≡ get_or spans (5 * k + i) 0
-    same k i b =
-        w.rest (5 * k + i) (λ (x : 5 * k + i ≡ 5 * p.variants + 3). omega arith) (λ (x : 5 * k + i ≡ 5 * p.variants + 4). omega arith)
-
-    same-off : (k : ℕ) → off_at spans' k ≡ off_at spans k
-    same-off k = w.rest (5 * k) (λ (x : 5 * k ≡ 5 * p.variants + 3). omega arith) (λ (x : 5 * k ≡ 5 * p.variants + 4). omega arith)
+    text-here k a b = rw (sym a) (w.text ∙ sym (get_or_at l.texts (record { start = s; after = e }) [] nowhere k (sym b)))
 
     -- the texts before it stay
     text-before : length l.variants ≡ length l.texts + 1 → (k : ℕ) → k < length l.texts
         → text_at spans' (suc k) ≡ get_or (texted l s e).texts k nowhere
     text-before even k b =
         let many : p.variants ≡ length l.variants = t.variants in
-        rw (
-          w.rest (5 * suc k + 3) (λ (x : 5 * suc k + 3 ≡ 5 * p.variants + 3). omega arith) (λ (x : 5 * suc k + 3 ≡ 5 * p.variants + 4). omega arith),
-          w.rest (5 * suc k + 4) (λ (x : 5 * suc k + 4 ≡ 5 * p.variants + 3). omega arith)
-              (λ (x : 5 * suc k + 4 ≡ 5 * p.variants + 4). omega arith),
-        )
-        (t.texts k b ∙ sym (get_or-append l.texts (record { start = s; after = e } ∷ []) nowhere k b))
+        w.others (suc k) (λ (x : suc k ≡ p.variants). omega arith)
+        ∙ t.texts k b
+        ∙ sym (get_or-append l.texts (record { start = s; after = e } ∷ []) nowhere k b)
 
     pub taken-text : role_of p.due tag ≡ is.Text
         → Taken file codes pool spans' (further_to e due.VariantOrEnd p.flags p.variants p.total) (texted l s e)
@@ -119,7 +109,7 @@ module _ (file : List ℕ) (codes : List Code) (pool spans : List ℕ) (p : Prog
           small = t.small;
           held = λ h k b. held_more p.flags p.flags (guard_of l k) p.total p.total
               (off_at spans k) (count_at spans k) (root_at spans k) (off_at spans' k) (count_at spans' k) (root_at spans' k) pool pool
-              (omega arith) (omega arith) refl (same-off k) (same k 1 (omega arith)) (same k 2 (omega arith)) (t.held h k b);
+              (omega arith) (omega arith) refl (w.guards k).0 (w.guards k).1 (w.guards k).2 (t.held h k b);
           texts = λ k b. ⊎_elim
               (λ (x : k ≡ length l.texts). text-here k (omega (arith, t.variants)) x)
               (λ (x : k < length l.texts). text-before even k x)
@@ -130,8 +120,8 @@ module _ (file : List ℕ) (codes : List Code) (pool spans : List ℕ) (p : Prog
         upto k b m = omega arith
 
   -- one more guard
-  module _ (g : Guard) (u : List Flag) (is-guard : guard_in file l s e ≡ guard g u) (r : Parsed) (codes' : List Code) (out pool' spans' : List ℕ)
-      (found : GuardRead (take e file) g u r codes' out)
+  module _ (g : Guard) (u : List Flag) (is-guard : guard_in file l s e ≡ guard g u) (r : Parsed) (codes' : List Code) (out pool' : List ℕ)
+      (spans' : List GuardSpan) (found : GuardRead (take e file) g u r codes' out)
       (kept : KeepSays out (connectives g) p.total pool pool') where
     flags-before : length l.flags ≡ p.flags
     flags-before = ap length (sym t.seen) ∙ flags-length (take p.at file) codes p.flags
@@ -190,12 +180,6 @@ module _ (file : List ℕ) (codes : List Code) (pool spans : List ℕ) (p : Prog
 
     -- a variant
     module _ (w : Noted (p.variants + 1) p.total (connectives g) (literal 0 g) spans spans') where
-      -- what stands before the new guard's numbers, or behind them, stays
-      kept-number : (i : ℕ) → (i < 5 * (p.variants + 1)) → get_or spans' i 0 ≡ get_or spans i 0
-      kept-number i b =
-          w.rest i (λ (x : i ≡ 5 * (p.variants + 1)). omega arith) (λ (x : i ≡ 5 * (p.variants + 1) + 1). omega arith)
-          (λ (x : i ≡ 5 * (p.variants + 1) + 2). omega arith)
-
       last-held : (k : ℕ) → p.total + connectives g ≤ connective_ceiling → k ≡ p.variants + 1
           → HeldAt (length u) (guard_of (varied l g u) k) (p.total + connectives g) k spans' pool'
       last-held k h x =
@@ -206,14 +190,8 @@ module _ (file : List ℕ) (codes : List Code) (pool spans : List ℕ) (p : Prog
       earlier-held : (k : ℕ) → p.total + connectives g ≤ connective_ceiling → k ≤ p.variants
           → HeldAt (length u) (guard_of (varied l g u) k) (p.total + connectives g) k spans' pool'
       earlier-held k h b =
-          rw (guard-earlier l g u k (omega (arith, t.variants)))
-          (old-held k b (kept-number (5 * k) (omega arith)) (kept-number (5 * k + 1) (omega arith)) (kept-number (5 * k + 2) (omega arith)) h)
-
-      text-stays : length l.variants ≡ length l.texts → (k : ℕ) → k < length l.texts
-          → text_at spans' (suc k) ≡ get_or l.texts k nowhere
-      text-stays even k b =
-          let many : p.variants ≡ length l.variants = t.variants in
-          rw (kept-number (5 * suc k + 3) (omega arith), kept-number (5 * suc k + 4) (omega arith)) (t.texts k b)
+          let same = w.others k (λ (x : k ≡ p.variants + 1). omega arith) in
+          rw (guard-earlier l g u k (omega (arith, t.variants))) (old-held k b same.0 same.1 same.2 h)
 
       pub taken-variant : role_of p.due tag ≡ is.Variant → p.variants < variant_ceiling
           → Taken file codes' pool' spans' (further_to e due.Text (length u) (p.variants + 1) (p.total + connectives g)) (varied l g u)
@@ -236,5 +214,5 @@ module _ (file : List ℕ) (codes : List Code) (pool spans : List ℕ) (p : Prog
                 (λ (x : k ≡ p.variants + 1). last-held k h x)
                 (λ (x : k < p.variants + 1). earlier-held k h (omega arith))
                 (eq-or-lt_of_le b);
-            texts = λ k b. text-stays even k b;
+            texts = λ k b. w.texts (suc k) ∙ t.texts k b;
           }

@@ -5,9 +5,9 @@ ghost use Rattle.questions.specs.Questions.{variant_ceiling};
 ghost use Rattle.questions.specs.clauses.Laying.{spans_room};
 ghost use Rattle.packs.specs.clauses.Taken.{guard_ceiling, KeepSays, Noted, NotedText};
 
-use building::spans::{AFTER, COUNT, ROOT, SPAN, START};
+use building::spans::GuardSpan;
 use notation::ceilings::{CONNECTIVES, TRIPLETS_ROOM};
-use questions::SPANS_ROOM;
+use questions::GUARDS;
 
 // Copies triplets behind others in the pool, where they fit: a line whose guards do not fit together is refused in the end.
 pub fn keep(
@@ -23,29 +23,28 @@ pub fn keep(
     if CONNECTIVES < total + count {
         return;
     }
-    let mut i: usize = 0;
-    while i < 3 * count {
-        let x = from[i];
-        pool[3 * total + i] = x;
-        i += 1;
-    }
+    let start = 3 * total;
+    let len = 3 * count;
+    pool[start..start + len].copy_from_slice(&from[0..len]);
 }
 
 // Notes where guard k stands in the pool: behind how many triplets, how many of its own it has, and its root.
-pub fn note(spans: &mut [usize; SPANS_ROOM], k: usize, total: usize, count: usize, root: u16)
+pub fn note(spans: &mut [GuardSpan; GUARDS], k: usize, total: usize, count: usize, root: u16)
     requires { (length spans.old ≡ spans_room) × (k ≤ variant_ceiling) }
     ensures { Noted k total count root spans.old spans.new }
 {
-    spans[SPAN * k] = total;
-    spans[SPAN * k + COUNT] = count;
-    spans[SPAN * k + ROOT] = root as usize;
+    let span = &mut spans[k];
+    span.off = total;
+    span.count = count;
+    span.root = root;
 }
 
 // Notes where the text of variant k stands in the pack.
-pub fn note_text(spans: &mut [usize; SPANS_ROOM], k: usize, start: usize, end: usize)
+pub fn note_text(spans: &mut [GuardSpan; GUARDS], k: usize, start: usize, end: usize)
     requires { (length spans.old ≡ spans_room) × (k ≤ variant_ceiling) }
     ensures { NotedText k start end spans.old spans.new }
 {
-    spans[SPAN * k + START] = start;
-    spans[SPAN * k + AFTER] = end;
+    let span = &mut spans[k];
+    span.text_start = start;
+    span.text_end = end;
 }

@@ -7,10 +7,11 @@ ghost use Rattle.packs.specs.clauses.Says.{Whole, PackSays};
 use crate::due::Due;
 use crate::pool::note;
 use crate::steps::{Progress, step_on};
+use building::spans::GuardSpan;
 use notation::ceilings::{CONNECTIVES, FLAGS, TRIPLETS_ROOM};
 use notation::codes::Code;
 use notation::refusal::{Refusal, fault};
-use questions::SPANS_ROOM;
+use questions::GUARDS;
 
 // How many flags and variants a line has.
 #[derive(Clone, Copy)]
@@ -25,7 +26,7 @@ fn closed(
     p: Progress,
     codes: &[Code; FLAGS],
     pool: &[u16; TRIPLETS_ROOM],
-    spans: &[usize; SPANS_ROOM],
+    spans: &[GuardSpan; GUARDS],
 ) -> Result<Line, Refusal>
     requires { Whole file.now codes.now pool.now spans.now p }
     ensures { PackSays file.now (pack_read file.now) result codes.now pool.now spans.now }
@@ -44,7 +45,7 @@ pub fn read_pack(
     file: &[u8],
     codes: &mut [Code; FLAGS],
     pool: &mut [u16; TRIPLETS_ROOM],
-    spans: &mut [usize; SPANS_ROOM],
+    spans: &mut [GuardSpan; GUARDS],
 ) -> Result<Line, Refusal>
     requires { Rooms codes.old pool.old spans.old }
     ensures { PackSays file.now (pack_read file.now) result codes.new pool.new spans.new }

@@ -8,11 +8,12 @@ ghost use Rattle.packs.specs.clauses.Says.{Going, StepAsks, StepSays, GuardAsks,
 
 use crate::due::{Due, Role, role_of};
 use crate::pool::{keep, note, note_text};
+use building::spans::GuardSpan;
 use fields::{Field, field_at};
 use notation::ceilings::{FLAGS, TRIPLETS_ROOM};
 use notation::codes::Code;
 use notation::refusal::{Refusal, fault};
-use questions::{SPANS_ROOM, VARIANTS};
+use questions::{GUARDS, VARIANTS};
 use reading::parse::{Guard, parse_from};
 
 // Bytes of a line's id.
@@ -39,7 +40,7 @@ fn read_guard(
     row: usize,
     codes: &mut [Code; FLAGS],
     pool: &mut [u16; TRIPLETS_ROOM],
-    spans: &mut [usize; SPANS_ROOM],
+    spans: &mut [GuardSpan; GUARDS],
 ) -> Result<Guard, Refusal>
     requires { GuardAsks file.now start end flags total row codes.old pool.old spans.old }
     ensures { GuardTakenSays
@@ -62,7 +63,7 @@ fn id_step(
     end: usize,
     codes: &[Code; FLAGS],
     pool: &[u16; TRIPLETS_ROOM],
-    spans: &[usize; SPANS_ROOM],
+    spans: &[GuardSpan; GUARDS],
 ) -> Result<Option<Progress>, Refusal>
     requires { StepAsks file.now codes.now pool.now spans.now p Role.Id start end }
     ensures { StepSays file.now p result codes.now pool.now spans.now }
@@ -89,7 +90,7 @@ fn rule_step(
     end: usize,
     codes: &mut [Code; FLAGS],
     pool: &mut [u16; TRIPLETS_ROOM],
-    spans: &mut [usize; SPANS_ROOM],
+    spans: &mut [GuardSpan; GUARDS],
 ) -> Result<Option<Progress>, Refusal>
     requires { StepAsks file.now codes.old pool.old spans.old p Role.Rule start end }
     ensures { StepSays file.now p result codes.new pool.new spans.new }
@@ -112,7 +113,7 @@ fn variant_step(
     end: usize,
     codes: &mut [Code; FLAGS],
     pool: &mut [u16; TRIPLETS_ROOM],
-    spans: &mut [usize; SPANS_ROOM],
+    spans: &mut [GuardSpan; GUARDS],
 ) -> Result<Option<Progress>, Refusal>
     requires { StepAsks file.now codes.old pool.old spans.old p Role.Variant start end }
     ensures { StepSays file.now p result codes.new pool.new spans.new }
@@ -139,7 +140,7 @@ fn text_step(
     end: usize,
     codes: &[Code; FLAGS],
     pool: &[u16; TRIPLETS_ROOM],
-    spans: &mut [usize; SPANS_ROOM],
+    spans: &mut [GuardSpan; GUARDS],
 ) -> Result<Option<Progress>, Refusal>
     requires { StepAsks file.now codes.now pool.now spans.old p Role.Text start end }
     ensures { StepSays file.now p result codes.now pool.now spans.new }
@@ -174,7 +175,7 @@ fn field_step(
     end: usize,
     codes: &mut [Code; FLAGS],
     pool: &mut [u16; TRIPLETS_ROOM],
-    spans: &mut [usize; SPANS_ROOM],
+    spans: &mut [GuardSpan; GUARDS],
 ) -> Result<Option<Progress>, Refusal>
     requires going { Going file.now codes.old pool.old spans.old p }
     requires field_here { FieldHere file.now p.at tag start end }
@@ -195,7 +196,7 @@ pub fn step_on(
     p: Progress,
     codes: &mut [Code; FLAGS],
     pool: &mut [u16; TRIPLETS_ROOM],
-    spans: &mut [usize; SPANS_ROOM],
+    spans: &mut [GuardSpan; GUARDS],
 ) -> Result<Option<Progress>, Refusal>
     requires { Going file.now codes.old pool.old spans.old p }
     ensures { StepSays file.now p result codes.new pool.new spans.new }

@@ -10,6 +10,7 @@ use Rattle.notation.specs.Ceilings.{connective_ceiling}
 use Rattle.notation.specs.Guard.{Guard, truth, connectives}
 use Rattle.notation.specs.Triplets.{Triplet, literal_ceiling}
 use Rattle.notation.specs.clauses.Writing.{triplet_at}
+use Rattle.building.specs.declared.spans.GuardSpan.{GuardSpan}
 use Rattle.building.specs.clauses.Held.{off_at, count_at, root_at}
 use Rattle.building.specs.clauses.Moved.{LayAsks, Laid}
 use Rattle.building.proofs.Laying.{held_asks, lays}
@@ -22,7 +23,7 @@ pub tied-room : (o o' : List ℕ) (c : ℕ) (t : Triplet) → o' ≡ triplet_at 
     → length o' ≡ 3 * connective_ceiling
 tied-room o o' c t e h = rw e (simp length-set h)
 
-module _ (pool spans : List ℕ) (k : ℕ) (out : List ℕ) (before : ℕ) where
+module _ (pool : List ℕ) (spans : List GuardSpan) (k : ℕ) (out : List ℕ) (before : ℕ) where
   module _ (a : LayGuardAsks pool spans k out before) where
     pub lay-asks : LayAsks pool (off_at spans k) (count_at spans k) (root_at spans k) out before
     lay-asks =
@@ -43,7 +44,7 @@ module _ (pool spans : List ℕ) (k : ℕ) (out : List ℕ) (before : ℕ) where
   }
 
 -- each guard of a line stands in the pool
-pub ready : (n : ℕ) (rule : Guard) (vs : List Guard) (spans pool : List ℕ) → LineHeld n rule vs spans pool → (k : ℕ) → k ≤ length vs
+pub ready : (n : ℕ) (rule : Guard) (vs : List Guard) (spans : List GuardSpan) (pool : List ℕ) → LineHeld n rule vs spans pool → (k : ℕ) → k ≤ length vs
     → Ready pool spans k n (guard_at rule vs k)
 ready n rule vs spans pool h k b =
     let g = h.held k b in
@@ -53,7 +54,7 @@ ready n rule vs spans pool h k b =
     }
 
 -- and finds room in a table that nothing has been laid in
-pub asks-alone : (n : ℕ) (rule : Guard) (vs : List Guard) (spans pool out : List ℕ) → LineHeld n rule vs spans pool → Rooms pool spans out
+pub asks-alone : (n : ℕ) (rule : Guard) (vs : List Guard) (spans : List GuardSpan) (pool out : List ℕ) → LineHeld n rule vs spans pool → Rooms pool spans out
     → (k : ℕ) → k ≤ length vs → LayGuardAsks pool spans k out 0
 asks-alone n rule vs spans pool out h q k b = record {
   n = n;

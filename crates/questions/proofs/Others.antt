@@ -12,6 +12,7 @@ use Rattle.notation.specs.Guard.{Guard, truth, joined, connectives}
 use Rattle.notation.specs.Triplets.{literal_ceiling, literal_of, triplet_variable, triplet_of}
 use Rattle.notation.specs.clauses.Writing.{triplet_at}
 use Rattle.levels.specs.clauses.Levels.{Writes}
+use Rattle.building.specs.declared.spans.GuardSpan.{GuardSpan}
 use Rattle.questions.proofs.Written.{own-small}
 use Rattle.levels.proofs.Written.{writes-joined}
 use Rattle.questions.specs.Questions.{or_all, sum_of}
@@ -28,7 +29,7 @@ sum_drop : (hs : List Guard) (m : ℕ) → m < length hs → sum_of (drop m hs) 
 unfolding sum_of
 sum_drop hs m h = ap (λ (l : List Guard). sum_of l) (drop-cons hs m (truth false) h)
 
-module _ (pool spans : List ℕ) (variants : ℕ) (out : List ℕ) (start : Built) (a : OthersAsk pool spans variants out start) where
+module _ (pool : List ℕ) (spans : List GuardSpan) (variants : ℕ) (out : List ℕ) (start : Built) (a : OthersAsk pool spans variants out start) where
   pub grown-start : Grown pool spans variants out start out start.count start.root 2
   unfolding or_all
   grown-start = record {

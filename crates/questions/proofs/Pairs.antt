@@ -10,6 +10,7 @@ use Rattle.notation.specs.Guard.{Guard, negated, joined, connectives}
 use Rattle.notation.specs.Triplets.{literal_ceiling, literal_of, triplet_variable, triplet_of, negation}
 use Rattle.notation.specs.clauses.Writing.{signed, triplet_at}
 use Rattle.levels.specs.clauses.Levels.{Writes}
+use Rattle.building.specs.declared.spans.GuardSpan.{GuardSpan}
 use Rattle.questions.proofs.Written.{own-small, writes-negated}
 use Rattle.levels.proofs.Written.{writes-joined}
 use Rattle.questions.specs.Questions.{apart, guard_at}
@@ -43,7 +44,7 @@ pair-writes rule v w c₁ c₂ c₃ o o₁ o₂ o₃ o₄ l r s m x y z room lon
     writes-joined implies 0 c₁ (c₃ + 1) o o₁ o₄ rule (negated (joined and v w)) l m x not-both room
     (tied-room o₃ o₄ c₃ (triplet_of and r s) e long)
 
-module _ (pool spans : List ℕ) (i j : ℕ) (out : List ℕ) (a : PairAsks pool spans i j out) where
+module _ (pool : List ℕ) (spans : List GuardSpan) (i j : ℕ) (out : List ℕ) (a : PairAsks pool spans i j out) where
   fits : (n : ℕ) (rule : Guard) (vs : List Guard) → LineHeld n rule vs spans pool → j ≤ length vs
       → connectives rule + connectives (guard_at rule vs i) + connectives (guard_at rule vs j) + 2 ≤ connective_ceiling
   fits n rule vs h b = omega (arith, pair_fits rule vs i j a.first a.second b, h.fits)

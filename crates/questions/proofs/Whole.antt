@@ -13,6 +13,7 @@ use Rattle.notation.specs.Triplets.{literal_ceiling, literal_of, triplet_variabl
 use Rattle.notation.specs.clauses.Writing.{triplet_at}
 use Rattle.levels.specs.clauses.Levels.{Writes}
 use Rattle.levels.proofs.Written.{writes-joined}
+use Rattle.building.specs.declared.spans.GuardSpan.{GuardSpan}
 use Rattle.questions.specs.Questions.{or_all, any_of, whole_of, sum_of, total_of}
 use Rattle.questions.specs.clauses.Laying.{LineHeld, Ready, Rooms, LayGuardAsks, LayGuardSays, Others, OthersAsk, OthersLaid, WholeAsks, WholeLaid}
 use Rattle.questions.specs.declared.Built.{Built}
@@ -23,7 +24,7 @@ first-sum : (rule v : Guard) (hs : List Guard) → total_of rule (v ∷ hs) ≡ 
 unfolding sum_of
 first-sum rule v hs = omega arith
 
-module _ (pool spans : List ℕ) where
+module _ (pool : List ℕ) (spans : List GuardSpan) where
   -- the variants after the first
   others : (n : ℕ) (rule v : Guard) (hs : List Guard) → LineHeld n rule (v ∷ hs) spans pool → Others pool spans n hs
   others n rule v hs h m b =

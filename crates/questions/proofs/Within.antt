@@ -8,6 +8,7 @@ use Rattle.notation.specs.Ceilings.{connective_ceiling}
 use Rattle.notation.specs.Tokens.{or}
 use Rattle.notation.specs.Guard.{Guard, truth, joined, connectives}
 use Rattle.notation.specs.clauses.Shape.{FlagsWithin}
+use Rattle.building.specs.declared.spans.GuardSpan.{GuardSpan}
 use Rattle.questions.specs.Questions.{or_all, any_of, whole_of, apart, guard_at, pair_of}
 use Rattle.questions.specs.clauses.Laying.{LineHeld}
 use Rattle.questions.proofs.Connectives.{whole-connectives, apart-connectives}
@@ -24,7 +25,7 @@ unfolding any_of
 any-within n [] each = tt
 any-within n (v ∷ vs) each = or-within n v vs (each 0 (omega arith)) (λ m b. each (suc m) (omega (arith, b)))
 
-module _ (n : ℕ) (rule : Guard) (vs : List Guard) (spans pool : List ℕ) (h : LineHeld n rule vs spans pool) where
+module _ (n : ℕ) (rule : Guard) (vs : List Guard) (spans : List GuardSpan) (pool : List ℕ) (h : LineHeld n rule vs spans pool) where
   pub whole-within : FlagsWithin n (whole_of rule vs)
   unfolding whole_of
   whole-within = ((h.held 0 (omega arith)).within, any-within n vs (λ m b. (h.held (suc m) (omega (arith, b))).within))

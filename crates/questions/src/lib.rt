@@ -3,7 +3,7 @@
 
 ghost use Rattle.questions.specs.clauses.Laying.{LayGuardAsks, LayGuardSays, PairAsks, PairLaid, OthersAsk, OthersLaid, WholeAsks, WholeLaid};
 
-use building::spans::{COUNT, ROOT, SPAN};
+use building::spans::GuardSpan;
 use building::{lay, tie};
 use notation::ceilings::TRIPLETS_ROOM;
 use notation::place::Connective;
@@ -12,8 +12,8 @@ use notation::triplets::flipped;
 // Variants of a line.
 pub const VARIANTS: usize = 16;
 
-// Numbers of the table of spans: the rule's, then each variant's.
-pub const SPANS_ROOM: usize = SPAN * (VARIANTS + 1);
+// Guards of a line: its rule, then each variant.
+pub const GUARDS: usize = VARIANTS + 1;
 
 // A guard that has been laid: how many triplets stand then, and its literal.
 #[derive(Clone, Copy)]
@@ -25,7 +25,7 @@ pub struct Built {
 // Guard k of a line, laid behind others.
 fn lay_guard(
     pool: &[u16; TRIPLETS_ROOM],
-    spans: &[usize; SPANS_ROOM],
+    spans: &[GuardSpan; GUARDS],
     k: usize,
     out: &mut [u16; TRIPLETS_ROOM],
     before: usize,
@@ -33,9 +33,9 @@ fn lay_guard(
     requires { LayGuardAsks pool.now spans.now k out.old before }
     ensures { LayGuardSays pool.now spans.now k out.old before out.new result }
 {
-    let off = spans[SPAN * k];
-    let count = spans[SPAN * k + COUNT];
-    let root = lay(pool, off, count, spans[SPAN * k + ROOT] as u16, out, before);
+    let span = spans[k];
+    let count = span.count;
+    let root = lay(pool, span.off, count, span.root, out, before);
     Built {
         count: before + count,
         root,
@@ -45,7 +45,7 @@ fn lay_guard(
 // The question of the variants i and j, rule > !(vi&vj).
 pub fn lay_pair(
     pool: &[u16; TRIPLETS_ROOM],
-    spans: &[usize; SPANS_ROOM],
+    spans: &[GuardSpan; GUARDS],
     i: usize,
     j: usize,
     out: &mut [u16; TRIPLETS_ROOM],
@@ -73,7 +73,7 @@ pub fn lay_pair(
 // The variants from the second on, joined by `|` to the first, which has been laid.
 fn lay_others(
     pool: &[u16; TRIPLETS_ROOM],
-    spans: &[usize; SPANS_ROOM],
+    spans: &[GuardSpan; GUARDS],
     variants: usize,
     out: &mut [u16; TRIPLETS_ROOM],
     first: Built,
@@ -83,12 +83,10 @@ fn lay_others(
 {
     let mut count = first.count;
     let mut root = first.root;
-    let mut k: usize = 2;
-    while k <= variants {
+    for k in 2..variants + 1 {
         let right = lay_guard(pool, spans, k, out, count);
         root = tie(out, right.count, Connective::Or, root, right.root);
         count = right.count + 1;
-        k += 1;
     }
     Built { count, root }
 }
@@ -96,7 +94,7 @@ fn lay_others(
 // The question of a whole line, rule > ((v1|v2)|v3 ..).
 pub fn lay_whole(
     pool: &[u16; TRIPLETS_ROOM],
-    spans: &[usize; SPANS_ROOM],
+    spans: &[GuardSpan; GUARDS],
     variants: usize,
     out: &mut [u16; TRIPLETS_ROOM],
 ) -> Built

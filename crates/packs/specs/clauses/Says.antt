@@ -13,6 +13,7 @@ use Rattle.reading.specs.clauses.Parsing.{GuardRead}
 use Rattle.notation.specs.declared.refusal.Refusal.{Refusal}
 use Rattle.reading.specs.Service.{Parsed}
 use Rattle.fields.specs.clauses.Here.{FieldHere}
+use Rattle.building.specs.declared.spans.GuardSpan.{GuardSpan}
 use Rattle.building.specs.clauses.Held.{text_at}
 use Rattle.questions.specs.Questions.{variant_ceiling}
 use Rattle.questions.specs.clauses.Laying.{LineHeld}
@@ -34,12 +35,12 @@ abbrev pub Pack : Type 0
 Pack = Result counted.Line Refusal
 
 -- some line has been read up to here
-pub record Going (file : List ℕ) (codes : List Code) (pool spans : List ℕ) (p : Progress) : Type 0 where
+pub record Going (file : List ℕ) (codes : List Code) (pool : List ℕ) (spans : List GuardSpan) (p : Progress) : Type 0 where
   pub line : pack.Line
   pub taken : Taken file codes pool spans p line
 
 -- the line that has been read is all that the fields of the pack say
-pub record Whole (file : List ℕ) (codes : List Code) (pool spans : List ℕ) (p : Progress) : Type 0 where
+pub record Whole (file : List ℕ) (codes : List Code) (pool : List ℕ) (spans : List GuardSpan) (p : Progress) : Type 0 where
   pub line : pack.Line
   pub taken : Taken file codes pool spans p line
   pub due : p.due ≡ due.VariantOrEnd
@@ -53,12 +54,12 @@ pub record FieldAs (file : List ℕ) (p : Progress) (r : Role) (s e : ℕ) : Typ
   pub role : role_of p.due tag ≡ r
 
 -- what a step over a field asks
-pub record StepAsks (file : List ℕ) (codes : List Code) (pool spans : List ℕ) (p : Progress) (r : Role) (s e : ℕ) : Type 0 where
+pub record StepAsks (file : List ℕ) (codes : List Code) (pool : List ℕ) (spans : List GuardSpan) (p : Progress) (r : Role) (s e : ℕ) : Type 0 where
   pub going : Going file codes pool spans p
   pub field : FieldAs file p r s e
 
 -- what reading a guard of the pack asks
-pub record GuardAsks (file : List ℕ) (s e flags total row : ℕ) (codes : List Code) (pool spans : List ℕ) : Type 0 where
+pub record GuardAsks (file : List ℕ) (s e flags total row : ℕ) (codes : List Code) (pool : List ℕ) (spans : List GuardSpan) : Type 0 where
   pub rooms : Rooms codes pool spans
   pub starts : s ≤ e
   pub ends : e ≤ length file
@@ -76,14 +77,14 @@ end_step due.Text at = Err (fault 13 at)
 end_step due.VariantOrEnd at = Ok None
 
 -- what a step from p answers, and what the lent tables then hold
-abbrev pub StepSays : List ℕ → Progress → Step → List Code → List ℕ → List ℕ → Type 0
+abbrev pub StepSays : List ℕ → Progress → Step → List Code → List ℕ → List GuardSpan → Type 0
 StepSays file p (Ok (Some q)) codes pool spans = Going file codes pool spans q × (p.at < q.at)
 StepSays file p (Ok None) codes pool spans = Whole file codes pool spans p
 StepSays file p (Err f) codes pool spans = fields_say file ≡ pack.refusal f
 
 -- a guard of the pack has been read: its flags, its triplets in the pool where they fit, and where they stand
-pub record GuardTaken (file : List ℕ) (e row total : ℕ) (g : Guard) (u : List Flag) (r : Parsed) (pool spans : List ℕ) (codes' : List Code)
-    (pool' spans' : List ℕ) : Type
+pub record GuardTaken (file : List ℕ) (e row total : ℕ) (g : Guard) (u : List Flag) (r : Parsed) (pool : List ℕ) (spans : List GuardSpan) (codes' : List Code)
+    (pool' : List ℕ) (spans' : List GuardSpan) : Type
     0 where
   pub out : List ℕ
   pub found : GuardRead (take e file) g u r codes' out
@@ -91,14 +92,14 @@ pub record GuardTaken (file : List ℕ) (e row total : ℕ) (g : Guard) (u : Lis
   pub noted : Noted row total (connectives g) (literal 0 g) spans spans'
 
 -- what reading a guard of the pack answers, and what the lent tables then hold
-abbrev pub GuardTakenSays : Reading → List ℕ → ℕ → ℕ → ℕ → Parsed → List ℕ → List ℕ → List Code → List ℕ → List ℕ
+abbrev pub GuardTakenSays : Reading → List ℕ → ℕ → ℕ → ℕ → Parsed → List ℕ → List GuardSpan → List Code → List ℕ → List GuardSpan
     → Type 0
 GuardTakenSays (read.refusal k p) file e row total r pool spans codes' pool' spans' = r ≡ Err (fault k p)
 GuardTakenSays (read.guard g u) file e row total r pool spans codes' pool' spans' = GuardTaken file e row total g u r pool spans codes' pool'
     spans'
 
 -- the line of a pack in the lent tables: its flags, its guards in the pool, and where its texts stand
-pub record LineRead (file : List ℕ) (l : pack.Line) (r : Pack) (codes : List Code) (pool spans : List ℕ) : Type 0 where
+pub record LineRead (file : List ℕ) (l : pack.Line) (r : Pack) (codes : List Code) (pool : List ℕ) (spans : List GuardSpan) : Type 0 where
   pub answer : r ≡ Ok (record { flags = length l.flags; variants = length l.variants })
   pub rooms : Rooms codes pool spans
   pub flags : flags_in file codes (length l.flags) ≡ l.flags
@@ -108,6 +109,6 @@ pub record LineRead (file : List ℕ) (l : pack.Line) (r : Pack) (codes : List C
   pub texts : (k : ℕ) → k < length l.texts → text_at spans (suc k) ≡ get_or l.texts k nowhere
 
 -- what reading a pack answers, and what the lent tables then hold
-abbrev pub PackSays : List ℕ → PackReading → Pack → List Code → List ℕ → List ℕ → Type 0
+abbrev pub PackSays : List ℕ → PackReading → Pack → List Code → List ℕ → List GuardSpan → Type 0
 PackSays file (pack.refusal f) r codes pool spans = r ≡ Err f
 PackSays file (pack.line l) r codes pool spans = LineRead file l r codes pool spans

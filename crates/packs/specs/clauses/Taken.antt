@@ -5,6 +5,7 @@ use Rattle.notation.specs.Guard.{Guard, connectives}
 use Rattle.notation.specs.clauses.Codes.{codes_room, flags_in, InText}
 use Rattle.notation.specs.declared.codes.Code.{Code}
 use Rattle.fields.specs.Fields.{pieces_at}
+use Rattle.building.specs.declared.spans.GuardSpan.{GuardSpan}
 use Rattle.building.specs.Span.{Span}
 use Rattle.building.specs.clauses.Held.{off_at, count_at, root_at, text_at, HeldAt}
 use Rattle.questions.specs.Questions.{variant_ceiling, total_of, guard_at}
@@ -19,7 +20,7 @@ abbrev pub guard_ceiling : ℕ
 guard_ceiling = variant_ceiling + 1
 
 -- the lent tables are as large as any pack wants
-pub record Rooms (c : List Code) (p s : List ℕ) : Type 0 where
+pub record Rooms (c : List Code) (p : List ℕ) (s : List GuardSpan) : Type 0 where
   pub codes : length c ≡ codes_room
   pub pool : length p ≡ 3 * connective_ceiling
   pub spans : length s ≡ spans_room
@@ -45,7 +46,7 @@ Stage due.Text l = length l.variants ≡ length l.texts + 1
 Stage due.VariantOrEnd l = (length l.variants ≡ length l.texts) × (0 < length l.variants)
 
 -- the line l has been read up to here; its guards stand in the pool where they fit
-pub record Taken (file : List ℕ) (codes : List Code) (pool spans : List ℕ) (p : Progress) (l : Line) : Type 0 where
+pub record Taken (file : List ℕ) (codes : List Code) (pool : List ℕ) (spans : List GuardSpan) (p : Progress) (l : Line) : Type 0 where
   pub rooms : Rooms codes pool spans
   pub goes : pack_from file p.due l (pieces_at file p.at) ≡ fields_say file
   pub inside : p.at ≤ length file
@@ -70,17 +71,23 @@ pub record KeepSays (from : List ℕ) (count total : ℕ) (pool pool' : List ℕ
   pub room : length pool' ≡ 3 * connective_ceiling
   pub kept : total + count ≤ connective_ceiling → Kept from count total pool pool'
 
--- the three numbers of guard k stand in the table of spans, and the others are as they were
-pub record Noted (k o c r : ℕ) (spans spans' : List ℕ) : Type 0 where
+-- guard i stands in both tables of spans alike
+abbrev pub StandsAlike : ℕ → List GuardSpan → List GuardSpan → Type 0
+StandsAlike i spans spans' =
+    (off_at spans' i ≡ off_at spans i) × (count_at spans' i ≡ count_at spans i) × (root_at spans' i ≡ root_at spans i)
+
+-- where guard k stands is noted in the table of spans; the other guards stand in it as they did, and all texts
+pub record Noted (k o c r : ℕ) (spans spans' : List GuardSpan) : Type 0 where
   pub room : length spans' ≡ spans_room
   pub off : off_at spans' k ≡ o
   pub count : count_at spans' k ≡ c
   pub root : root_at spans' k ≡ r
-  pub rest : (i : ℕ) → (i ≡ 5 * k → ⊥) → (i ≡ 5 * k + 1 → ⊥) → (i ≡ 5 * k + 2 → ⊥) → get_or spans' i 0 ≡ get_or spans i 0
+  pub others : (i : ℕ) → (i ≡ k → ⊥) → StandsAlike i spans spans'
+  pub texts : (i : ℕ) → text_at spans' i ≡ text_at spans i
 
--- the two numbers of its text do, and the others are as they were
-pub record NotedText (k s e : ℕ) (spans spans' : List ℕ) : Type 0 where
+-- where its text stands is; the other texts stand in the table as they did, and all guards
+pub record NotedText (k s e : ℕ) (spans spans' : List GuardSpan) : Type 0 where
   pub room : length spans' ≡ spans_room
-  pub start : get_or spans' (5 * k + 3) 0 ≡ s
-  pub after : get_or spans' (5 * k + 4) 0 ≡ e
-  pub rest : (i : ℕ) → (i ≡ 5 * k + 3 → ⊥) → (i ≡ 5 * k + 4 → ⊥) → get_or spans' i 0 ≡ get_or spans i 0
+  pub text : text_at spans' k ≡ record { start = s; after = e }
+  pub others : (i : ℕ) → (i ≡ k → ⊥) → text_at spans' i ≡ text_at spans i
+  pub guards : (i : ℕ) → StandsAlike i spans spans'

@@ -1,10 +1,6 @@
 -- `questions::lay_others` meets its contract: after each step one variant more is joined.
-use Prim.Native.Nat.{◌+◌, ◌-◌}
 use Rattle.questions.specs.clauses.Laying.{Grown}
 use Rattle.questions.proofs.lay_others.Given as goal
 
 abbrev pub invariant-loop-k : goal.invariant-loop-k
 invariant-loop-k l = Grown l.pool l.spans l.variants l.initial.out (record { count = l.initial.count; root = l.initial.root }) l.out l.count l.root l.k
-
-abbrev pub decreases-loop-k : goal.decreases-loop-k
-decreases-loop-k l = l.variants + 1 - l.k

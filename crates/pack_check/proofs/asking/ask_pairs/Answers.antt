@@ -1,6 +1,5 @@
-use mathlib.Core.Path.{refl, subst}
+use mathlib.Core.Path.{refl}
 use Rattle.std.specs.Prelude.{Some}
-use Rattle.pack_check.specs.clauses.Asking.{RowAnswered}
 use Rattle.pack_check.proofs.Rows.{row_open}
 use Rattle.pack_check.proofs.asking.ask_pairs.Goals as goal
 
