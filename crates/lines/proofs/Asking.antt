@@ -1,36 +1,49 @@
 -- What a line asks, by its first three bytes.
-use Prim.Native.Nat.{ℕ, ◌+◌, ◌*◌, ◌≤◌, ◌<◌}
+use Prim.Native.Nat.{ℕ, ◌+◌, ◌-◌, ◌*◌, ◌≤◌, ◌<◌}
 use native.Mathlib.Omega.{arith}
-use mathlib.Core.Path.{◌≡◌, refl, sym, subst, ◌∙◌}
+use mathlib.Core.Path.{◌≡◌, refl, sym, subst}
 use mathlib.Core.Bool.{Bool, true, false}
 use mathlib.Core.List.{List}
-use mathlib.Core.Logic.{⊎_elim}
+use mathlib.Core.Logic.{◌⊎◌, inl, inr, ⊎_elim}
 use lib.ListN.{length, get_or-eq_default}
-use lib.Dec.{eqb, leb}
+use lib.Dec.{eqb}
 use borrow.Author.Tests.{eq-eqb, ne_eqb, le-leb, lt-leb, eqb-true}
 use Rattle.notation.specs.Tokens.{among}
 use Rattle.ground.specs.Choice.{choose}
 use Rattle.std.specs.Prelude.{Option, Some, None}
 use Rattle.ground.proofs.Cases.{lt-or-ge}
+use Rattle.lines.specs.clauses.Digit.{digit}
 use Rattle.lines.specs.Question.{byte_at, is_digit, digit_value, asks, question}
 use Rattle.lines.specs.declared.question.Question.{Question}
 
 -- ---- digits
-pub below-digits : (b : ℕ) → b < 48 → false ≡ is_digit b
-unfolding among
-below-digits b h = rw (lt-leb 48 b h)
+pub digit-some : (b : ℕ) → (48 ≤ b) × (b ≤ 57) → Some (b - 48) ≡ digit b
+unfolding digit among
+digit-some b h = rw (le-leb 48 b h.0, le-leb b 57 h.1)
 
-pub from-digits : (b : ℕ) → 48 ≤ b → leb b 57 ≡ is_digit b
-unfolding among
-from-digits b h = rw (le-leb 48 b h)
+pub digit-none : (b : ℕ) → (b < 48) ⊎ (57 < b) → None ≡ digit b
+unfolding digit among
+digit-none b (inl h) = rw (lt-leb 48 b h)
+digit-none b (inr h) = rw (le-leb 48 b (omega arith), lt-leb b 57 h)
 
-pub digit-from : (b : ℕ) → is_digit b ≡ true → 48 ≤ b
-unfolding among
-digit-from b e =
-    ⊎_elim
-    (λ (h : b < 48). let z : false ≡ true = below-digits b h ∙ e in let y : ◌≡◌ {A = ℕ} 0 1 = cc in absurd (omega arith))
-    (λ (h : 48 ≤ b). h)
-    (lt-or-ge b 48)
+chosen-told : (t : Bool) (v d : ℕ) → choose t (Some v) None ≡ Some d → (t ≡ true) × (v ≡ d)
+chosen-told true v d e = (refl, cc)
+chosen-told false v d e = cc
+
+pub digit-told : (b d : ℕ) → digit b ≡ Some d → (is_digit b ≡ true) × (digit_value b ≡ d)
+unfolding digit
+digit-told b d e = chosen-told (is_digit b) (digit_value b) d e
+
+pub digit-small : (b d : ℕ) → digit b ≡ Some d → d ≤ b
+digit-small b d e = let told = digit-told b d e in let v = told.1 in omega arith
+
+chosen-untold : (t : Bool) (v : ℕ) → choose t (Some v) None ≡ None → t ≡ false
+chosen-untold true v e = cc
+chosen-untold false v e = refl
+
+pub digit-untold : (b : ℕ) → digit b ≡ None → is_digit b ≡ false
+unfolding digit
+digit-untold b e = chosen-untold (is_digit b) (digit_value b) e
 
 -- ---- the four ways that the first three bytes go
 module _ (line : List ℕ) (a b : ℕ) (ea : a ≡ byte_at line 0) (eb : b ≡ byte_at line 1) where

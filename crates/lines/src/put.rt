@@ -1,4 +1,5 @@
-// Appending bytes to a lent slice at a place. Each answers the place after what it put.
+// Appending bytes to a lent slice at a place. Each answers the place after what it put. Printing by Display may fail, and the
+// library's digits are a String's, which needs a heap: `answer_line` may do neither.
 ghost use Rattle.std.specs.Prelude.{◌+◌, ◌≤◌, ◌<◌, [], ◌∷◌, length};
 ghost use Rattle.lines.specs.clauses.Put.{Puts, PutsIn, number_room};
 ghost use Rattle.lines.specs.Printed.{decimal};

@@ -1,6 +1,7 @@
 // What a line asks: a depth of one or two digits, one space, a guard.
 ghost use Rattle.std.specs.Prelude.{◌≡◌, ◌≤◌};
-ghost use Rattle.lines.specs.Question.{byte_at, is_digit, digit_value, question};
+ghost use Rattle.lines.specs.Question.{byte_at, question};
+ghost use Rattle.lines.specs.clauses.Digit.{digit};
 
 // A depth, and where the guard starts in the line.
 #[derive(Clone, Copy)]
@@ -13,49 +14,32 @@ pub struct Question {
 fn byte_at(line: &[u8], i: usize) -> u8
     ensures { result ≡ byte_at line.now i }
 {
-    if i < line.len() {
-        return line[i];
-    }
-    0
+    line.get(i).copied().unwrap_or(0)
 }
 
-fn is_digit(b: u8) -> bool
-    ensures { result ≡ is_digit b }
+// The number that a digit stands for; none where the byte is no digit.
+fn digit(b: u8) -> Option<u64>
+    ensures { result ≡ digit b }
 {
-    if b < b'0' {
-        return false;
+    if !b.is_ascii_digit() {
+        return None;
     }
-    b <= b'9'
-}
-
-// The number that a digit stands for.
-fn digit_value(b: u8) -> u64
-    requires { 48 ≤ b }
-    ensures { result ≡ digit_value b }
-{
-    (b - b'0') as u64
+    Some(u64::from(b - b'0'))
 }
 
 // The depth and the guard of a line, if it has the form.
 pub fn question_of(line: &[u8]) -> Option<Question>
     ensures { result ≡ question line.now }
 {
-    let first = byte_at(line, 0);
+    let high = digit(byte_at(line, 0))?;
     let second = byte_at(line, 1);
-    if !is_digit(first) {
-        return None;
-    }
-    let high = digit_value(first);
     if second == b' ' {
         return Some(Question {
             depth: high,
             start: 2,
         });
     }
-    if !is_digit(second) {
-        return None;
-    }
-    let low = digit_value(second);
+    let low = digit(second)?;
     if byte_at(line, 2) != b' ' {
         return None;
     }
