@@ -16,7 +16,7 @@ use Rattle.questions.specs.Questions.{whole_of, pair_of}
 use Rattle.packs.specs.Pack.{PackReading, refusal, line}
 use Rattle.pack_check.specs.PackCheck.{asked, PackVerdict, line_with, pair_with, PairIs, FirstPair, OverlapSays, PackReadingSays, PackChecked}
 use Rattle.pack_check.specs.declared.verdict.Overlap.{Overlap}
-use Rattle.std.specs.Prelude.{Option, Some, None, Ok, Err}
+use Rattle.std.specs.Prelude.{Option, None, Err}
 
 -- check has an answer for every guard
 pub checked-exists : (n : ℕ) (g : Guard) (k : ℕ) → (v : Verdict) × Checked n g k v
