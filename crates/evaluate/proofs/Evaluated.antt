@@ -7,6 +7,7 @@ use lib.ListN.{length}
 use lib.Dec.{ltb}
 use Rattle.notation.specs.declared.codes.Code.{Code}
 use Rattle.notation.specs.Reading.{refusal, reading}
+use Rattle.notation.specs.declared.refusal.Reason.TheVariants.{NoState}
 use Rattle.notation.specs.declared.refusal.Refusal.{Refusal}
 use Rattle.reading.specs.declared.parse.Guard as counted
 use Rattle.reading.proofs.Serving.{Found}
@@ -18,12 +19,12 @@ use Rattle.truth.proofs.Written.{written-value}
 use Rattle.read_truth.proofs.Begun.{read_flags, read-begins}
 
 module _ (text : List ℕ) (state : ℕ) where
-  pub evaluates-refusal : (f : Refusal) → reading text ≡ refusal f.number f.place → Err f ≡ evaluated (reading text) state
+  pub evaluates-refusal : (f : Refusal) → reading text ≡ refusal f.reason f.place → Err f ≡ evaluated (reading text) state
   unfolding evaluated
   evaluates-refusal f e = rw e refl
 
   module _ (x : counted.Guard) (codes : List Code) (xs : List ℕ) (f : Found text (reading text) x codes xs) where
-    pub evaluates-no-state : ltb state (2 ^ x.flags) ≡ false → Err (record { number = 9; place = 0 }) ≡ evaluated (reading text) state
+    pub evaluates-no-state : ltb state (2 ^ x.flags) ≡ false → Err (record { reason = NoState; place = 0 }) ≡ evaluated (reading text) state
     unfolding evaluated
     evaluates-no-state h =
         let late : ltb state (2 ^ length f.flags) ≡ false = rw (read_flags text x codes xs f) at h in

@@ -3,6 +3,7 @@ use Rattle.std.specs.Prelude.{ℕ, ◌^◌, Bool, length, ltb, Result, Ok, Err}
 use Rattle.ground.specs.Choice.{choose}
 use Rattle.notation.specs.Reading.{Reading, refusal, guard}
 use Rattle.truth.specs.Value.{value}
+use Rattle.notation.specs.declared.refusal.Reason.TheVariants.{NoState}
 use Rattle.notation.specs.declared.refusal.Refusal.{Refusal}
 
 -- a value, or a refusal
@@ -11,6 +12,6 @@ Evaluation = Result Bool Refusal
 
 -- a refusal of reading is answered; then a number that is no state is refused 9; else the guard's value in the state
 unfoldable pub evaluated : Reading → ℕ → Evaluation
-evaluated (refusal number p) state = Err (record { number = number; place = p })
+evaluated (refusal reason p) state = Err (record { reason = reason; place = p })
 evaluated (guard g codes) state =
-    choose (ltb state (2 ^ length codes)) (Ok (value (length codes) state g)) (Err (record { number = 9; place = 0 }))
+    choose (ltb state (2 ^ length codes)) (Ok (value (length codes) state g)) (Err (record { reason = NoState; place = 0 }))

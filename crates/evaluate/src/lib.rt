@@ -7,7 +7,7 @@ ghost use Rattle.evaluate.specs.Evaluated.{evaluated};
 
 use notation::ceilings::{FLAGS, TRIPLETS_ROOM};
 use notation::codes::Code;
-use notation::refusal::Refusal;
+use notation::refusal::{Reason, Refusal};
 use reading::parse::parse;
 use truth::formula::Formula;
 use truth::states::is_state;
@@ -21,7 +21,7 @@ pub fn evaluate(text: &[u8], state: u64) -> Result<bool, Refusal>
     let guard = parse(text, &mut codes, &mut triplets)?;
     if !is_state(state, guard.flags) {
         return Err(Refusal {
-            number: 9,
+            reason: Reason::NoState,
             place: 0,
         });
     }

@@ -9,6 +9,7 @@ use Rattle.notation.specs.Ceilings.{text_ceiling, connective_ceiling}
 use Rattle.notation.specs.Walk.{Flag}
 use Rattle.notation.specs.Guard.{Guard}
 use Rattle.notation.specs.Reading.{Reading, refusal, guard, reading}
+use Rattle.notation.specs.declared.refusal.Reason.TheVariants.{LongText, HighDepth}
 use Rattle.notation.specs.declared.refusal.Refusal.{Refusal}
 use Rattle.reading.specs.declared.parse.Guard as counted
 use Rattle.reading.proofs.Serving.{Found}
@@ -24,11 +25,11 @@ use Rattle.guard_check.proofs.Tables.{guard-says}
 says : (text : List ℕ) (depth : ℕ) (R : Reading) (r : Checking) → asked text depth ≡ R → ReadingSays R depth r → CheckSays text depth r
 says text depth R r e h = subst (λ (x : Reading). ReadingSays x depth r) (sym e) h
 
-pub asks-long : (text : List ℕ) (depth : ℕ) → text_ceiling < length text → asked text depth ≡ refusal 1 text_ceiling
+pub asks-long : (text : List ℕ) (depth : ℕ) → text_ceiling < length text → asked text depth ≡ refusal LongText text_ceiling
 unfolding asked
 asks-long text depth h = rw (lt-leb (length text) text_ceiling h)
 
-pub asks-deep : (text : List ℕ) (depth : ℕ) → length text ≤ text_ceiling → depth_ceiling < depth → asked text depth ≡ refusal 2 0
+pub asks-deep : (text : List ℕ) (depth : ℕ) → length text ≤ text_ceiling → depth_ceiling < depth → asked text depth ≡ refusal HighDepth 0
 unfolding asked
 asks-deep text depth h d = rw (le-leb (length text) text_ceiling h, lt-leb depth depth_ceiling d)
 
@@ -37,13 +38,13 @@ unfolding asked
 asks-text text depth h d = rw (le-leb (length text) text_ceiling h, le-leb depth depth_ceiling d)
 
 -- a text over its ceiling
-pub too_long : (text : List ℕ) (depth : ℕ) → text_ceiling < length text → CheckSays text depth (Err (record { number = 1; place = text_ceiling }))
-too_long text depth h = says text depth (refusal 1 text_ceiling) _ (asks-long text depth h) refl
+pub too_long : (text : List ℕ) (depth : ℕ) → text_ceiling < length text → CheckSays text depth (Err (record { reason = LongText; place = text_ceiling }))
+too_long text depth h = says text depth (refusal LongText text_ceiling) _ (asks-long text depth h) refl
 
 -- a depth over its ceiling
 pub too-deep : (text : List ℕ) (depth : ℕ) → length text ≤ text_ceiling → depth_ceiling < depth → CheckSays text depth
-    (Err (record { number = 2; place = 0 }))
-too-deep text depth h d = says text depth (refusal 2 0) _ (asks-deep text depth h d) refl
+    (Err (record { reason = HighDepth; place = 0 }))
+too-deep text depth h d = says text depth (refusal HighDepth 0) _ (asks-deep text depth h d) refl
 
 -- a guard in the tables is one that can be decided
 abbrev pub from-tables : (text : List ℕ) (codes : List Code) (out : List ℕ) (x : counted.Guard) → Found text (reading text) x codes out →
@@ -54,8 +55,8 @@ from-tables text codes out x f l =
 
 module _ (text : List ℕ) (depth : ℕ) (h : length text ≤ text_ceiling) (d : depth ≤ depth_ceiling) where
   -- a refusal of the text is passed on
-  pub refused-too : (f : Refusal) → reading text ≡ refusal f.number f.place → CheckSays text depth (Err f)
-  refused-too f e = says text depth (refusal f.number f.place) (Err f) (asks-text text depth h d ∙ e) refl
+  pub refused-too : (f : Refusal) → reading text ≡ refusal f.reason f.place → CheckSays text depth (Err f)
+  refused-too f e = says text depth (refusal f.reason f.place) (Err f) (asks-text text depth h d ∙ e) refl
 
   -- what is said of its guard is said of the text
   pub guard-too : (g : Guard) (u : List Flag) → reading text ≡ guard g u → (v : Verdict) → Checked (length u) g depth v → CheckSays text depth (Ok v)

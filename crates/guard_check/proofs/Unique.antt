@@ -18,7 +18,7 @@ verdict-unique n g k (Ok v) (Err e) a b = absurd b
 verdict-unique n g k (Err e) s a b = absurd a
 
 reading-unique : (x : Reading) (k : ℕ) (r s : Checking) → ReadingSays x k r → ReadingSays x k s → r ≡ s
-reading-unique (refusal number p) k r s a b = a ∙ sym b
+reading-unique (refusal reason p) k r s a b = a ∙ sym b
 reading-unique (guard g u) k r s a b = verdict-unique (length u) g k r s a b
 
 -- no second verdict satisfies check's statement

@@ -5,6 +5,7 @@ use Rattle.ground.specs.Choice.{choose}
 use Rattle.notation.specs.Reading.{Reading, refusal, guard, reading}
 use Rattle.saturation.specs.Answer.{Checked}
 use Rattle.saturation.specs.declared.verdict.Verdict.{Verdict}
+use Rattle.notation.specs.declared.refusal.Reason.TheVariants.{LongText, HighDepth}
 use Rattle.notation.specs.declared.refusal.Refusal.{Refusal}
 
 -- the depth of a check
@@ -15,8 +16,8 @@ depth_ceiling = 24
 unfoldable pub asked : List ℕ → ℕ → Reading
 asked text depth =
     choose (leb (length text) text_ceiling)
-    (choose (leb depth depth_ceiling) (reading text) (refusal 2 0))
-    (refusal 1 text_ceiling)
+    (choose (leb depth depth_ceiling) (reading text) (refusal HighDepth 0))
+    (refusal LongText text_ceiling)
 
 -- a verdict, or a refusal
 abbrev pub Checking : Type 0
@@ -24,7 +25,7 @@ Checking = Result Verdict Refusal
 
 -- a refusal is passed on, and a guard is checked
 abbrev pub ReadingSays : Reading → ℕ → Checking → Type 0
-ReadingSays (refusal k p) depth r = r ≡ Err (record { number = k; place = p })
+ReadingSays (refusal k p) depth r = r ≡ Err (record { reason = k; place = p })
 ReadingSays (guard g u) depth r = IsOkAnd r (Checked (length u) g depth)
 
 -- what check answers

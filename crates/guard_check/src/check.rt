@@ -4,7 +4,7 @@ ghost use Rattle.guard_check.specs.Check.{CheckSays};
 use crate::answer::answer;
 use notation::ceilings::{FLAGS, TEXT, TRIPLETS_ROOM};
 use notation::codes::Code;
-use notation::refusal::Refusal;
+use notation::refusal::{Reason, Refusal};
 use reading::parse::parse;
 use saturation::verdict::Verdict;
 use truth::formula::Formula;
@@ -18,13 +18,13 @@ pub fn check(text: &[u8], depth: u64) -> Result<Verdict, Refusal>
 {
     if TEXT < text.len() {
         return Err(Refusal {
-            number: 1,
+            reason: Reason::LongText,
             place: TEXT,
         });
     }
     if DEPTH < depth {
         return Err(Refusal {
-            number: 2,
+            reason: Reason::HighDepth,
             place: 0,
         });
     }

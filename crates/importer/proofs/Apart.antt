@@ -5,9 +5,12 @@ use Rattle.std.specs.Prelude.{Ok, Err}
 use Rattle.guard_check.specs.Check.{Checking}
 use native.Mathlib.Omega.{arith}
 use Rattle.notation.specs.Ceilings.{text_ceiling}
+use Rattle.notation.specs.declared.refusal.Reason.{Reason}
 use Rattle.notation.specs.declared.refusal.Refusal.{Refusal}
 use Rattle.saturation.specs.declared.verdict.Verdict.{Verdict}
 use Rattle.saturation.specs.declared.verdict.Verdict.TheVariants.{Covered, Gap, Undecided}
+use Rattle.notation.specs.Refusals.{number_of}
+use Rattle.notation.proofs.Reasons.{number-apart}
 use Rattle.importer.specs.Packed.{packed, packed_answer, packed_refusal, packed_verdict}
 use Rattle.reading.specs.clauses.Parsing.{last_refusal}
 use Rattle.importer.specs.clauses.Fits.{AnswerFits, RefusalFits, VerdictFits}
@@ -18,14 +21,14 @@ packed-apart kind payload h = (omega arith, omega arith)
 
 -- the number and the place of a refusal
 pub refusal-apart : (f : Refusal) → RefusalFits f
-    → (packed_refusal f / 2 ^ 32 ≡ 3) × (packed_refusal f % 2 ^ 32 / 2 ^ 16 ≡ f.number) × (packed_refusal f % 2 ^ 16 ≡ f.place)
+    → (packed_refusal f / 2 ^ 32 ≡ 3) × (packed_refusal f % 2 ^ 32 / 2 ^ 16 ≡ number_of f.reason) × (packed_refusal f % 2 ^ 16 ≡ f.place)
 refusal-apart f h =
-    let n : f.number ≤ last_refusal = h.number in
+    let n : number_of f.reason ≤ last_refusal = h.number in
     let p : f.place ≤ text_ceiling = h.place in
     (omega arith, omega arith, omega arith)
 
-refusal-same : (n p m q : ℕ) → n ≡ m → p ≡ q → ◌≡◌ {A = Checking} (Err (record { number = n; place = p })) (Err (record { number = m; place = q }))
-refusal-same n p m q a b = rw (a, b)
+refusal-same : (n m : Reason) (p q : ℕ) → n ≡ m → p ≡ q → ◌≡◌ {A = Checking} (Err (record { reason = n; place = p })) (Err (record { reason = m; place = q }))
+refusal-same n m p q a b = rw (a, b)
 
 verdict-same : (v w : Verdict) → VerdictFits v → VerdictFits w → packed_verdict v ≡ packed_verdict w → v ≡ w
 verdict-same Covered Covered a b e = refl
@@ -51,8 +54,8 @@ verdict-apart (Ok v) (Ok w) a b e = ap Ok (verdict-same v w a b e)
 verdict-apart (Ok v) (Err g) a b e = absurd (verdict-refusal v g a e)
 verdict-apart (Err f) (Ok w) a b e = absurd (verdict-refusal w f b (sym e))
 verdict-apart (Err f) (Err g) a b e =
-    let n : f.number ≤ last_refusal = a.number in
+    let n : number_of f.reason ≤ last_refusal = a.number in
     let p : f.place ≤ text_ceiling = a.place in
-    let m : g.number ≤ last_refusal = b.number in
+    let m : number_of g.reason ≤ last_refusal = b.number in
     let q : g.place ≤ text_ceiling = b.place in
-    refusal-same f.number f.place g.number g.place (omega arith) (omega arith)
+    refusal-same f.reason g.reason f.place g.place (number-apart f.reason g.reason (omega arith)) (omega arith)

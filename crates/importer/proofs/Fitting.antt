@@ -22,6 +22,9 @@ use Rattle.reading.specs.Service.{Parsed, Named, guard_with, refused_with, read_
 use Rattle.reading.specs.clauses.Parsing.{last_refusal}
 use Rattle.ground.proofs.Cases.{either}
 use Rattle.notation.proofs.Accepted.{reading-accepted, reading-shape}
+use Rattle.notation.specs.Refusals.{number_of}
+use Rattle.notation.specs.declared.refusal.Reason.{Reason}
+use Rattle.notation.specs.declared.refusal.Reason.TheVariants.{LongText, HighDepth, NoState, SmallRoom, NoFlag}
 use Rattle.truth.specs.Value.{value}
 use Rattle.evaluate.specs.Evaluated.{Evaluation, evaluated}
 use Rattle.saturation.specs.Saturation.{Flags}
@@ -40,7 +43,7 @@ use Rattle.reading.proofs.Places.{choose-has, FlagsFit, OutcomeFits, text-fits}
 -- ---- what a text says
 -- the places of a reading are within the longest text
 abbrev PlacesFit : Reading → Type 0
-PlacesFit (refusal k p) = (k ≤ last_refusal) × (p ≤ text_ceiling)
+PlacesFit (refusal k p) = (number_of k ≤ last_refusal) × (p ≤ text_ceiling)
 PlacesFit (guard g u) = FlagsFit u
 
 judged-fits : (o : Outcome) (g : Guard) → OutcomeFits o → PlacesFit (judged o g)
@@ -52,7 +55,7 @@ places-fit : (text : List ℕ) → PlacesFit (reading text)
 unfolding reading
 places-fit text =
     choose-has (λ (x : Reading). PlacesFit x) (leb (length text) text_ceiling) (judged (walk operand 0 [] 0 (tokens text)) (tree (tokens text)))
-    (refusal 1 text_ceiling)
+    (refusal LongText text_ceiling)
     (λ h. judged-fits (walk operand 0 [] 0 (tokens text)) (tree (tokens text)) (text-fits text (leb-true (length text) text_ceiling h)))
     (λ h. (omega arith, omega arith))
 
@@ -64,7 +67,7 @@ record Small (g : Guard) (u : List Flag) : Type 0 where
   places : FlagsFit u
 
 abbrev ReadingFits : Reading → Type 0
-ReadingFits (refusal k p) = (k ≤ last_refusal) × (p ≤ text_ceiling)
+ReadingFits (refusal k p) = (number_of k ≤ last_refusal) × (p ≤ text_ceiling)
 ReadingFits (guard g u) = Small g u
 
 small-reading : (text : List ℕ) (x : Reading) → reading text ≡ x → PlacesFit x → ReadingFits x
@@ -75,16 +78,16 @@ small-reading text (guard g u) e f =
 reading-fits : (text : List ℕ) → ReadingFits (reading text)
 reading-fits text = small-reading text (reading text) refl (places-fit text)
 
-refusal-fits : (k p : ℕ) → (k ≤ last_refusal) × (p ≤ text_ceiling) → RefusalFits (record { number = k; place = p })
+refusal-fits : (k : Reason) (p : ℕ) → (number_of k ≤ last_refusal) × (p ≤ text_ceiling) → RefusalFits (record { reason = k; place = p })
 refusal-fits k p f = record { number = f.0; place = f.1 }
 
 -- ---- check
 asked-fits : (text : List ℕ) (depth : ℕ) → ReadingFits (asked text depth)
 unfolding asked
 asked-fits text depth =
-    choose-has (λ (x : Reading). ReadingFits x) (leb (length text) text_ceiling) (choose (leb depth depth_ceiling) (reading text) (refusal 2 0))
-    (refusal 1 text_ceiling)
-    (λ h. choose-has (λ (x : Reading). ReadingFits x) (leb depth depth_ceiling) (reading text) (refusal 2 0) (λ e. reading-fits text)
+    choose-has (λ (x : Reading). ReadingFits x) (leb (length text) text_ceiling) (choose (leb depth depth_ceiling) (reading text) (refusal HighDepth 0))
+    (refusal LongText text_ceiling)
+    (λ h. choose-has (λ (x : Reading). ReadingFits x) (leb depth depth_ceiling) (reading text) (refusal HighDepth 0) (λ e. reading-fits text)
     (λ e. (omega arith, omega arith)))
     (λ h. (omega arith, omega arith))
 
@@ -107,8 +110,8 @@ unfolding evaluated
 evaluated-fits (refusal k p) state f = refusal-fits k p f
 evaluated-fits (guard g u) state f =
     choose-has (λ (e : Evaluation). AnswerFits ValueFits e) (ltb state (2 ^ length u)) (Ok (value (length u) state g))
-    (Err (record { number = 9; place = 0 }))
-    (λ h. tt) (λ h. refusal-fits 9 0 (omega arith, omega arith))
+    (Err (record { reason = NoState; place = 0 }))
+    (λ h. tt) (λ h. refusal-fits NoState 0 (omega arith, omega arith))
 
 pub evaluate-fits : (text : List ℕ) (state : ℕ) (r : Evaluation) → r ≡ evaluated (reading text) state → AnswerFits ValueFits r
 evaluate-fits text state r e = subst (λ (x : Evaluation). AnswerFits ValueFits x) (sym e) (evaluated-fits (reading text) state (reading-fits text))
@@ -152,8 +155,8 @@ unfolding listed
 listed-fits (refusal k p) start room f = refusal-fits k p f
 listed-fits (guard g u) start room f =
     choose-has (λ (x : Listing). AnswerFits FoundFits x) (ltb start (2 ^ length u)) (Ok (writing.found (gaps_from (length u) g start) room))
-    (Err (record { number = 9; place = 0 }))
-    (λ h. found-fits (length u) g start room f.flags (ltb-true start (2 ^ length u) h)) (λ h. refusal-fits 9 0 (omega arith, omega arith))
+    (Err (record { reason = NoState; place = 0 }))
+    (λ h. found-fits (length u) g start room f.flags (ltb-true start (2 ^ length u) h)) (λ h. refusal-fits NoState 0 (omega arith, omega arith))
 
 pub list-fits : (text : List ℕ) (start room : ℕ) (r : Listing) → r ≡ listed (reading text) start room → AnswerFits FoundFits r
 list-fits text start room r e = subst (λ (x : Listing). AnswerFits FoundFits x) (sym e) (listed-fits (reading text) start room (reading-fits text))
@@ -163,15 +166,16 @@ answer-fits : (x : Reading) (room : ℕ) → ReadingFits x → AnswerFits GuardF
 unfolding read_answer
 answer-fits (refusal k p) room f = refusal-fits k p f
 answer-fits (guard g u) room f =
-    choose-has (λ (x : Parsed). AnswerFits GuardFits x) (leb (3 * connectives g) room) (guard_with (length u) (connectives g) (literal 0 g)) (refused_with 10 0)
-    (λ h. record { flags = f.flags; count = f.count; root = f.root }) (λ h. refusal-fits 10 0 (omega arith, omega arith))
+    choose-has (λ (x : Parsed). AnswerFits GuardFits x) (leb (3 * connectives g) room) (guard_with (length u) (connectives g) (literal 0 g))
+    (refused_with SmallRoom 0)
+    (λ h. record { flags = f.flags; count = f.count; root = f.root }) (λ h. refusal-fits SmallRoom 0 (omega arith, omega arith))
 
 pub read_fits : (text : List ℕ) (room : ℕ) (r : Parsed) → r ≡ read_answer (reading text) room → AnswerFits GuardFits r
 read_fits text room r e = subst (λ (x : Parsed). AnswerFits GuardFits x) (sym e) (answer-fits (reading text) room (reading-fits text))
 
 -- ---- name
-no-flag-fits : AnswerFits StretchFits (unnamed 11 0)
-no-flag-fits = refusal-fits 11 0 (omega arith, omega arith)
+no-flag-fits : AnswerFits StretchFits (unnamed NoFlag 0)
+no-flag-fits = refusal-fits NoFlag 0 (omega arith, omega arith)
 
 name-in-fits : (u : List Flag) (i : ℕ) → FlagsFit u → AnswerFits StretchFits (name_in u i)
 unfolding name_in

@@ -1,6 +1,7 @@
 -- How an answer is one number: kind x 2^32 + payload.
 use Rattle.std.specs.Prelude.{ℕ, ◌+◌, ◌*◌, ◌^◌, Bool, Result, Ok, Err}
 use Rattle.ground.specs.Choice.{choose}
+use Rattle.notation.specs.Refusals.{number_of}
 use Rattle.notation.specs.declared.refusal.Refusal.{Refusal}
 use Rattle.reading.specs.declared.parse.Guard as counted
 use Rattle.reading.specs.declared.name.Stretch.{Stretch}
@@ -13,9 +14,9 @@ use Rattle.saturation.specs.declared.verdict.Verdict.TheVariants as verdict
 abbrev pub packed : ℕ → ℕ → ℕ
 packed kind payload = kind * 2 ^ 32 + payload
 
--- kind 3 is refused, in every entry: number x 2^16 + place
+-- kind 3 is refused, in every entry: the number of its reason x 2^16 + place
 abbrev pub packed_refusal : Refusal → ℕ
-packed_refusal f = packed 3 (f.number * 2 ^ 16 + f.place)
+packed_refusal f = packed 3 (number_of f.reason * 2 ^ 16 + f.place)
 
 -- an answer has its own number, and a refusal that of a refusal
 abbrev pub packed_answer : {T : Type 0} → (T → ℕ) → Result T Refusal → ℕ

@@ -45,7 +45,7 @@ impl Packed for Refusal {
     ghost fits = { RefusalFits };
 
     fn packed(self) -> u64 {
-        number_of(3, self.number as u64 * UPPER + self.place as u64)
+        number_of(3, self.reason.number() as u64 * UPPER + self.place as u64)
     }
 }
 

@@ -56,8 +56,8 @@ module _ (s : Sign) (next : Level) (d k : ℕ) (text : List ℕ) (at : At) (code
   module _ {left : Part} {codes : List Code} {out : List ℕ} (l : SoFar left codes out) where
     -- the sign is refused
     pub so-far-no-sign : (f : Refusal) → ((e : ℕ) (u : List Flag) → walk after e u left.at.signs (ahead text left.at.token) ≡ refused
-        f.number f.place) →
-        walk operand d (flags_at text codes₀ at) at.signs (ahead text at.token) ≡ refused f.number f.place
+        f.reason f.place) →
+        walk operand d (flags_at text codes₀ at) at.signs (ahead text at.token) ≡ refused f.reason f.place
     so-far-no-sign f h = l.chain.walked ∙ h d (flags_at text codes left.at)
 
     module _ (to : At) (sign : kind_is s left.at.token.kind ≡ true) (past-it : PassedSign text left.at to) where
@@ -73,9 +73,9 @@ module _ (s : Sign) (next : Level) (d k : ℕ) (text : List ℕ) (at : At) (code
           ∙ ap (λ (ts : Tokens). walk operand d (flags_at text codes to) to.signs ts) past-it.0.tokens
 
       -- the operand after the sign is refused
-      pub so-far-no-operand : (f : Refusal) → walk operand d (flags_at text codes to) to.signs (ahead text to.token) ≡ refused f.number f.place
+      pub so-far-no-operand : (f : Refusal) → walk operand d (flags_at text codes to) to.signs (ahead text to.token) ≡ refused f.reason f.place
           →
-          walk operand d (flags_at text codes₀ at) at.signs (ahead text at.token) ≡ refused f.number f.place
+          walk operand d (flags_at text codes₀ at) at.signs (ahead text at.token) ≡ refused f.reason f.place
       so-far-no-operand f h = walked_on ∙ h
 
       -- where the reader stands behind the sign is right

@@ -16,6 +16,7 @@ use Rattle.notation.specs.clauses.Cut.{ahead, ends}
 use Rattle.notation.specs.clauses.Codes.{flags_in}
 use Rattle.notation.specs.declared.codes.Code.{Code}
 use Rattle.notation.specs.clauses.Place.{RefusedAt}
+use Rattle.notation.specs.declared.refusal.Reason.TheVariants.{OutOfPlace, ManyBrackets}
 use Rattle.notation.specs.declared.refusal.Refusal.{Refusal}
 use Rattle.notation.specs.declared.refusal.Refused.{Refused}
 use Rattle.notation.specs.declared.place.Kind.TheVariants as kind
@@ -87,11 +88,11 @@ module _ {text : List ℕ} {p : Place} {d : ℕ} {codes : List Code} {out : List
   }
 
   -- a token that is no operand
-  pub misplaced : {x : Refused} {p' : Place} → opens p.token.kind ≡ false → RefusedAt 5 p.token.start p p' →
+  pub misplaced : {x : Refused} {p' : Place} → opens p.token.kind ≡ false → RefusedAt OutOfPlace p.token.start p p' →
       Says (plain (operands_at d)) d 0 text p codes out wait (Err x) p' codes out wait
   misplaced k h =
       says-refused refl
-      (no_operand p.token.kind text p.token.start p.token.next d _ _ k ∙ ap (λ (f : Refusal). refused f.number f.place) (sym h.refusal)) a.rooms
+      (no_operand p.token.kind text p.token.start p.token.next d _ _ k ∙ ap (λ (f : Refusal). refused f.reason f.place) (sym h.refusal)) a.rooms
 
 -- `!` before an operand
 pub record Banged (text : List ℕ) (p₀ p : Place) (odd : ℕ) (bang : Bool) : Type 0 where
@@ -108,7 +109,7 @@ module _ {text : List ℕ} {p₀ p : Place} {odd : ℕ} {bang : Bool} (b : Bange
 
     module _ {p₁ : Place} {r : Result Unit Refused} (h : AdvancedSays text p r p₁) where
       pub bang-refused : {x : Refused} → r ≡ Err x → (d : ℕ) (codes : List Code) →
-          walk operand d (flags_in text codes p₀.flags) p₀.signs (ahead text p₀.token) ≡ refused p₁.refusal.number p₁.refusal.place
+          walk operand d (flags_in text codes p₀.flags) p₀.signs (ahead text p₀.token) ≡ refused p₁.refusal.reason p₁.refusal.place
       bang-refused e d codes = bangs-refused text (place p₀) (place p) odd b.passed is-bang p₁.refusal (h.refused _ e) d _ _
 
       pub bang-less : r ≡ Ok tt → length text - p₁.token.start < length text - p.token.start
@@ -149,10 +150,10 @@ banged-none {text} {p} a e = record { passed = bangs-none text (place p) a.stand
 
 -- a guard in brackets
 module _ {text : List ℕ} {p : Place} {d : ℕ} {codes : List Code} {out : List ℕ} {wait : Stack} (a : Asks text p d codes out wait) (k : p.token.kind ≡ kind.Opening) where
-  pub too-deep : {x : Refused} {p' : Place} → bracket_ceiling ≤ d → RefusedAt 6 p.token.start p p' →
+  pub too-deep : {x : Refused} {p' : Place} → bracket_ceiling ≤ d → RefusedAt ManyBrackets p.token.start p p' →
       Says (plain (operands_at d)) d 0 text p codes out wait (Err x) p' codes out wait
   too-deep l h =
-      says-refused refl (bracket-refused text (place p) k d _ _ l ∙ ap (λ (f : Refusal). refused f.number f.place) (sym h.refusal)) a.rooms
+      says-refused refl (bracket-refused text (place p) k d _ _ l ∙ ap (λ (f : Refusal). refused f.reason f.place) (sym h.refusal)) a.rooms
 
   pub asks-past : TokenFits text p.token × (ends p.token.kind ≡ false)
   asks-past = (a.standing.token, ap ends k)

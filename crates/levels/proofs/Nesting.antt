@@ -19,6 +19,7 @@ use Rattle.notation.specs.clauses.Codes.{flags_in, InText}
 use Rattle.notation.specs.declared.codes.Code.{Code}
 use Rattle.operands.specs.clauses.Steps.{At, Part, bangs, TokenFits, Standing, Advanced, Closed}
 use Rattle.levels.specs.clauses.Levels.{plain, FoundPart, operands_at}
+use Rattle.notation.specs.declared.refusal.Reason.TheVariants.{ManyBrackets}
 use Rattle.notation.specs.declared.refusal.Refusal.{Refusal}
 use Rattle.notation.specs.declared.place.Kind.{Kind}
 use Rattle.notation.specs.declared.place.Kind.TheVariants as kind
@@ -52,7 +53,7 @@ module _ (text : List ℕ) (at : At) (k : at.token.kind ≡ kind.Opening) (d : �
   opening-is = ahead-opening at.token.kind text at.token.start at.token.next k
 
   -- one too many
-  pub bracket-refused : (u : List Flag) (m : ℕ) → bracket_ceiling ≤ d → walk operand d u m (ahead text at.token) ≡ refused 6 at.token.start
+  pub bracket-refused : (u : List Flag) (m : ℕ) → bracket_ceiling ≤ d → walk operand d u m (ahead text at.token) ≡ refused ManyBrackets at.token.start
   unfolding walk within
   bracket-refused u m h = ap (walk operand d u m) opening-is ∙ rw (lt-leb (suc d) bracket_ceiling (omega arith))
 
@@ -82,8 +83,8 @@ module _ (text : List ℕ) (at : At) (k : at.token.kind ≡ kind.Opening) (d : �
 
     -- a refusal inside is the bracket's
     pub inside-refused : (f : Refusal) → walk operand (d + 1) (flags_in text codes inside.flags) inside.signs
-        (ahead text inside.token) ≡ refused f.number f.place →
-        walk operand d (flags_in text codes at.flags) at.signs (ahead text at.token) ≡ refused f.number f.place
+        (ahead text inside.token) ≡ refused f.reason f.place →
+        walk operand d (flags_in text codes at.flags) at.signs (ahead text at.token) ≡ refused f.reason f.place
     inside-refused f e = into ∙ e
 
     pub inside-standing : Standing text codes at → Standing text codes inside
@@ -101,8 +102,8 @@ module _ (text : List ℕ) (at : At) (k : at.token.kind ≡ kind.Opening) (d : �
         out') where
       -- no closing bracket follows
       pub never-closed : (f : Refusal) → ((e : ℕ) (u : List Flag) (m : ℕ) → walk after (suc e) u m (ahead text part.at.token) ≡ refused
-          f.number f.place) →
-          walk operand d (flags_in text codes at.flags) at.signs (ahead text at.token) ≡ refused f.number f.place
+          f.reason f.place) →
+          walk operand d (flags_in text codes at.flags) at.signs (ahead text at.token) ≡ refused f.reason f.place
       never-closed f e = into ∙ p.reads.walked ∙ ap (λ (n : ℕ). walk after n (flags_in text codes' part.at.flags) part.at.signs
           (ahead text part.at.token)) (add-one d) ∙ e d (flags_in text codes' part.at.flags) part.at.signs
 
@@ -232,7 +233,7 @@ module _ (text : List ℕ) (at here : At) (odd : ℕ) (b : Bangs text at here od
 
   -- what follows is faulty
   pub bangs-refused : (f : Refusal) → FaultyHere (past (ahead text here.token)) f → (d : ℕ) (u : List Flag) (m : ℕ) →
-      walk operand d u m (ahead text at.token) ≡ refused f.number f.place
+      walk operand d u m (ahead text at.token) ≡ refused f.reason f.place
   bangs-refused f a d u m = b.walked d u m ∙ bang-walked d u m ∙ a operand d u m
 
   -- one more
@@ -278,8 +279,8 @@ module _ (text : List ℕ) (at here : At) (odd : ℕ) (b : Bangs text at here od
 
   -- the operand behind them is refused
   pub behind-refused : (d : ℕ) (f : Refusal) → walk operand d (flags_in text codes here.flags) here.signs (ahead text here.token) ≡ refused
-      f.number f.place →
-      walk operand d (flags_in text codes at.flags) at.signs (ahead text at.token) ≡ refused f.number f.place
+      f.reason f.place →
+      walk operand d (flags_in text codes at.flags) at.signs (ahead text at.token) ≡ refused f.reason f.place
   behind-refused d f e = here-walked d ∙ e
 
   -- the operand behind them, turned

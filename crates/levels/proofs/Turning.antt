@@ -52,7 +52,7 @@ module _ {L : ℕ → Level} {d k : ℕ} {text : List ℕ} {p : Place} {codes : 
 
   -- none was
   pub says-refused : {x : Refused} → r ≡ Err x →
-      walk operand d (flags_in text codes p.flags) p.signs (ahead text p.token) ≡ refused p'.refusal.number p'.refusal.place → Rooms out'
+      walk operand d (flags_in text codes p.flags) p.signs (ahead text p.token) ≡ refused p'.refusal.reason p'.refusal.place → Rooms out'
       wait' →
       Says L d k text p codes out wait r p' codes' out' wait'
   says-refused e w n = record {
@@ -107,7 +107,7 @@ module _ {s : Sign} {d : ℕ} {text : List ℕ} {p₀ : Place} {codes₀ : List 
 
   -- the sign is refused
   pub sign-refused : {p₁ : Place} {r : Result Unit Refused} {x : Refused} → PastSignSays text p r p₁ → r ≡ Err x →
-      walk operand d (flags_in text codes₀ p₀.flags) p₀.signs (ahead text p₀.token) ≡ refused p₁.refusal.number p₁.refusal.place
+      walk operand d (flags_in text codes₀ p₀.flags) p₀.signs (ahead text p₀.token) ≡ refused p₁.refusal.reason p₁.refusal.place
   sign-refused {p₁} h e = so-far-no-sign s (below_of s (operands_at d)) d (tighter s) text (place p₀) codes₀ out₀ so.chain p₁.refusal
       (h.refused _ e)
 
@@ -140,7 +140,7 @@ module _ {s : Sign} {d : ℕ} {text : List ℕ} {p₀ : Place} {codes₀ : List 
         (h : Says L d k text p₁ codes out wait r p₂ codes₂ out₂ wait₂) where
       -- the operand behind the sign is refused
       pub operand-refused : {x : Refused} → r ≡ Err x →
-          walk operand d (flags_in text codes₀ p₀.flags) p₀.signs (ahead text p₀.token) ≡ refused p₂.refusal.number p₂.refusal.place
+          walk operand d (flags_in text codes₀ p₀.flags) p₀.signs (ahead text p₀.token) ≡ refused p₂.refusal.reason p₂.refusal.place
       operand-refused e =
           so-far-no-operand s (below_of s (operands_at d)) d (tighter s) text (place p₀) codes₀ out₀ so.chain (place p₁) q.sign q.past
           p₂.refusal

@@ -15,6 +15,7 @@ use Rattle.notation.specs.clauses.Writing.{triplet_at}
 use Rattle.notation.specs.clauses.Cut.{ahead}
 use Rattle.notation.specs.clauses.Codes.{flags_in}
 use Rattle.notation.specs.declared.codes.Code.{Code}
+use Rattle.notation.specs.declared.refusal.Reason.{Reason}
 use Rattle.notation.specs.declared.refusal.Refused.{Refused}
 use Rattle.notation.specs.declared.place.Place.{Place}
 use Rattle.operands.specs.clauses.Steps.{Part, kind_is, joined_part, place, JoinedSays, Pushed, Popped}
@@ -79,7 +80,7 @@ module _ {s : Sign} {d : ℕ} {text : List ℕ} {p₀ : Place} {codes₀ : List 
   pub rising-opened : Sofar s d text r.q r.qcodes r.qout l p codes out
   rising-opened = opened r.last
 
-  pub rising-refused : {n m : ℕ} → walk operand d (flags_in text r.qcodes r.q.flags) r.q.signs (ahead text r.q.token) ≡ refused
+  pub rising-refused : {n : Reason} {m : ℕ} → walk operand d (flags_in text r.qcodes r.q.flags) r.q.signs (ahead text r.q.token) ≡ refused
       n m →
       walk operand d (flags_in text codes₀ p₀.flags) p₀.signs (ahead text p₀.token) ≡ refused n m
   rising-refused e = waiting-walked r.waits ∙ e

@@ -12,7 +12,7 @@ ghost use Rattle.levels.specs.clauses.Levels.{plain, operands_at, below_of, tigh
 use notation::ceilings::{BRACKETS, FLAGS, TRIPLETS_ROOM};
 use notation::codes::Code;
 use notation::place::{Connective, Kind, Place};
-use notation::refusal::Refused;
+use notation::refusal::{Reason, Refused};
 use notation::triplets::flipped;
 use operands::waiting::Stack;
 use operands::{
@@ -246,7 +246,7 @@ fn plain(
         Kind::Code => code_operand(text, at, codes),
         Kind::Truth(truth) => truth_operand(text, at, truth),
         Kind::Opening => bracket(text, at, brackets, codes, out, wait),
-        _ => Err(at.refuse_ahead(5)),
+        _ => Err(at.refuse_ahead(Reason::OutOfPlace)),
     }
 }
 
@@ -267,7 +267,7 @@ fn bracket(
         at.new codes.new out.new wait.new }
 {
     if BRACKETS <= brackets {
-        return Err(at.refuse_ahead(6));
+        return Err(at.refuse_ahead(Reason::ManyBrackets));
     }
     let moved = advanced(text, at);
     let Ok(()) = moved else {

@@ -18,6 +18,7 @@ use Rattle.notation.specs.Reading.{Reading}
 use Rattle.notation.specs.clauses.Shape.{FlagsWithin}
 use Rattle.notation.proofs.Numbered.{within_more}
 use Rattle.notation.proofs.Accepted.{Accepted, reading-from-accepted}
+use Rattle.notation.specs.declared.refusal.Reason.TheVariants.{ManyConnectives, WrongVariants, WrongId}
 use Rattle.fields.specs.Fields as fields
 use Rattle.fields.specs.Fields.{header, Pieces, pieces_at}
 use Rattle.building.specs.Span.{Span}
@@ -92,7 +93,7 @@ module _ (file : List ℕ) (d : Due) (tag : ℕ) (l : Line) (h : Sound d l) wher
   sound-step p s e is.Wrong r = tt
   sound-step p s e is.Id r = go (ltb 0 (e - s)) (leb (e - s) id_ceiling)
     where
-      go : (a b : Bool) → SoundNext (choose a (choose b (on due.RuleOrVariant l) (refused (fault 15 p))) (refused (fault 15 p)))
+      go : (a b : Bool) → SoundNext (choose a (choose b (on due.RuleOrVariant l) (refused (fault WrongId p))) (refused (fault WrongId p)))
       go true true = record { few = h.few; within = h.within; stage = stage-first l d tag r h.stage }
       go true false = tt
       go false b = tt
@@ -100,7 +101,7 @@ module _ (file : List ℕ) (d : Due) (tag : ℕ) (l : Line) (h : Sound d l) wher
       guarded s e (guard_in file l s e) refl (λ g u. on due.Variant (ruled l g u)) (λ g u a m. sound-ruled d tag l h g u a m r)
   sound-step p s e is.Variant r = go (ltb (length l.variants) variant_ceiling)
     where
-      go : (a : Bool) → SoundNext (choose a (with_guard (guard_in file l s e) (λ g u. on due.Text (varied l g u))) (refused (fault 14 p)))
+      go : (a : Bool) → SoundNext (choose a (with_guard (guard_in file l s e) (λ g u. on due.Text (varied l g u))) (refused (fault WrongVariants p)))
       go true = guarded s e (guard_in file l s e) refl (λ g u. on due.Text (varied l g u)) (λ g u a m. sound-varied d tag l h g u a m r)
       go false = tt
   sound-step p s e is.Text r =
@@ -145,7 +146,7 @@ unfolding fitting
 fitting-line (refusal f) n l e = e
 fitting-line (line m) n l e = go (all_fit (questions_of m.rule m.variants)) e
   where
-    go : (b : Bool) → choose b (line m) (refusal (fault 8 n)) ≡ line l → line m ≡ line l
+    go : (b : Bool) → choose b (line m) (refusal (fault ManyConnectives n)) ≡ line l → line m ≡ line l
     go true q = q
     go false q = let z : ◌≡◌ {A = ℕ} 0 1 = cc in absurd (omega arith)
 

@@ -10,6 +10,7 @@ use borrow.Author.Tests.{leb-true}
 use Rattle.ground.specs.Choice.{choose}
 use Rattle.ground.proofs.Cases.{never, lt-or-ge}
 use Rattle.notation.specs.Refusals.{fault}
+use Rattle.notation.specs.declared.refusal.Reason.TheVariants.{HighDepth}
 use Rattle.truth.specs.Value.{value}
 use Rattle.saturation.specs.Answer.{Checked}
 use Rattle.saturation.specs.declared.verdict.Verdict.{Verdict}
@@ -91,7 +92,7 @@ module _ (file : List ℕ) (depth : ℕ) (w : Verdict) (o : Option Overlap) wher
   line-by (refusal f) e d h = let z : ◌≡◌ {A = ℕ} 0 1 = cc in absurd (omega arith)
   line-by (line l) e d h = record { its = l; says = e; shallow = d; answers = h }
 
-  asked_by : (b : Bool) → leb depth depth_ceiling ≡ b → PackReadingSays (choose b (pack_read file) (refusal (fault 2 0))) depth (line_with w o)
+  asked_by : (b : Bool) → leb depth depth_ceiling ≡ b → PackReadingSays (choose b (pack_read file) (refusal (fault HighDepth 0))) depth (line_with w o)
       → LineOf file depth w o
   asked_by true e h = line-by (pack_read file) refl (leb-true depth depth_ceiling e) h
   asked_by false e h = let z : ◌≡◌ {A = ℕ} 0 1 = cc in absurd (omega arith)

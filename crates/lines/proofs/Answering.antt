@@ -8,6 +8,7 @@ use lib.Seq.{take_all}
 use Rattle.notation.specs.clauses.Cut.{part}
 use Rattle.notation.specs.Reading.{reading}
 use Rattle.notation.specs.Ceilings.{flag_ceiling}
+use Rattle.notation.specs.Refusals.{number_of}
 use Rattle.notation.specs.declared.refusal.Refusal.{Refusal}
 use Rattle.std.specs.Prelude.{Option, Ok, Err}
 use Rattle.guard_check.specs.Check.{Checking, CheckSays}
@@ -39,7 +40,7 @@ gap-put text state f g = record { puts = puts_then f g.puts; within = omega (ari
 
 pub refusal-put : (text : List ℕ) (x : Refusal) {a : List ℕ} {p : ℕ} {b : List ℕ} {q : ℕ} {c : List ℕ} {s : ℕ} {d : List ℕ} {t : ℕ}
     {e : List ℕ} {r : ℕ}
-    → Puts a p (bytes "refused ") b q → PutsIn number_room b q (decimal x.number) c s → Puts c s (bytes " ") d t → PutsIn number_room d t
+    → Puts a p (bytes "refused ") b q → PutsIn number_room b q (decimal (number_of x.reason)) c s → Puts c s (bytes " ") d t → PutsIn number_room d t
     (decimal x.place) e r
     → PutsIn verdict_room a p (answered text (Err x)) e r
 unfolding answered bytes

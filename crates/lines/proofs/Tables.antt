@@ -14,6 +14,7 @@ use Rattle.notation.specs.Grammar.{tree}
 use Rattle.notation.specs.Reading.{Reading, refusal, judged, reading}
 use Rattle.notation.specs.clauses.Codes.{start_of, end_of, code_in, flag_at, flags_in}
 use Rattle.notation.specs.declared.codes.Code.{Code}
+use Rattle.notation.specs.declared.refusal.Reason.TheVariants.{LongText}
 use Rattle.notation.specs.declared.refusal.Refusal.{Refusal}
 use Rattle.reading.specs.declared.parse.Guard as counted
 use Rattle.notation.proofs.Coding.{flags-split}
@@ -33,7 +34,7 @@ reading-fits : (text : List ℕ) → FlagsFit (flags_of (reading text))
 unfolding reading
 reading-fits text =
     choose-has (λ (x : Reading). FlagsFit (flags_of x)) (leb (length text) text_ceiling) (judged (walk operand 0 [] 0 (tokens text)) (tree (tokens text)))
-    (refusal 1 text_ceiling)
+    (refusal LongText text_ceiling)
     (λ h. judged-fits (walk operand 0 [] 0 (tokens text)) (tree (tokens text)) (text-fits text (leb-true (length text) text_ceiling h)))
     (λ h. tt)
 
@@ -72,7 +73,7 @@ module _ (text : List ℕ) (x : counted.Guard) (codes : List Code) (out : List �
       }
 
 -- where the text is refused, nothing is put
-pub refused-put : (text : List ℕ) (f : Refusal) → reading text ≡ refusal f.number f.place → (state : ℕ) (before : List ℕ) (at : ℕ)
+pub refused-put : (text : List ℕ) (f : Refusal) → reading text ≡ refusal f.reason f.place → (state : ℕ) (before : List ℕ) (at : ℕ)
     → PutsIn (value_room * flag_ceiling) before at (valued (flags_of (reading text)) state) before at
 unfolding valued
 refused-put text f e state before at = rw e (record { puts = puts_none before at; within = omega arith })

@@ -2,6 +2,7 @@
 use Rattle.std.specs.Prelude.{ℕ, zero, suc, ◌+◌, ◌/◌, ◌%◌, Bool, List, [], ◌∷◌, ◌++◌, length, ltb, Ok, Err}
 use Rattle.ground.specs.Choice.{choose}
 use Rattle.notation.specs.Walk.{Flag}
+use Rattle.notation.specs.Refusals.{number_of}
 use Rattle.notation.specs.Reading.{Reading, refusal, guard, reading}
 use Rattle.ground.specs.Bits.{bit}
 use Rattle.ground.specs.Bytes.{bytes}
@@ -33,7 +34,7 @@ valued (f ∷ u) state = flag_value f.name (bit state (length u)) ++ valued u st
 
 -- the flags of a guard that is read
 abbrev pub flags_of : Reading → List Flag
-flags_of (refusal number place) = []
+flags_of (refusal reason place) = []
 flags_of (guard g u) = u
 
 -- the answer to a question on a guard
@@ -41,7 +42,7 @@ unfoldable pub answered : List ℕ → Checking → List ℕ
 answered text (Ok Covered) = bytes "covered"
 answered text (Ok (Gap state)) = bytes "gap" ++ valued (flags_of (reading text)) state
 answered text (Ok Undecided) = bytes "undecided"
-answered text (Err f) = bytes "refused " ++ (decimal f.number ++ (bytes " " ++ decimal f.place))
+answered text (Err f) = bytes "refused " ++ (decimal (number_of f.reason) ++ (bytes " " ++ decimal f.place))
 
 -- the line number, a space, the answer, LF
 unfoldable pub printed : ℕ → List ℕ → Checking → List ℕ

@@ -1,6 +1,7 @@
 -- What a line asks: a depth of one or two digits, one space, a guard.
 use Rattle.std.specs.Prelude.{ℕ, ◌+◌, ◌*◌, ◌-◌, ◌≡◌, Bool, List, [], get_or, drop, eqb, Option, Some, None, Err}
 use Rattle.notation.specs.Tokens.{among}
+use Rattle.notation.specs.declared.refusal.Reason.TheVariants.{MalformedLine}
 use Rattle.ground.specs.Choice.{choose}
 use Rattle.guard_check.specs.Check.{Checking, CheckSays}
 use Rattle.lines.specs.declared.question.Question.{Question}
@@ -38,7 +39,7 @@ guard_in line (Some q) = drop q.start line
 
 -- a line that is not of the form is refused 12; else check answers
 abbrev pub QuestionSays : List ℕ → Option Question → Checking → Type 0
-QuestionSays line None r = r ≡ Err (record { number = 12; place = 0 })
+QuestionSays line None r = r ≡ Err (record { reason = MalformedLine; place = 0 })
 QuestionSays line (Some q) r = CheckSays (drop q.start line) q.depth r
 
 -- the guard of a line

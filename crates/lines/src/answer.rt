@@ -9,7 +9,7 @@ use crate::flags::put_flags;
 use crate::put::{put, put_all, put_number};
 use crate::question::question_of;
 use guard_check::check::check;
-use notation::refusal::Refusal;
+use notation::refusal::{Reason, Refusal};
 use saturation::verdict::Verdict;
 
 // Bytes of a room for any output line.
@@ -20,7 +20,7 @@ fn put_refusal(out: &mut [u8], at: usize, refusal: Refusal) -> usize
     ensures { PutsIn verdict_room out.old at (answered [] (Err refusal)) out.new result }
 {
     let number = put_all(out, at, b"refused ");
-    let space = put_number(out, number, refusal.number as u64);
+    let space = put_number(out, number, refusal.reason.number() as u64);
     let place = put(out, space, b' ');
     put_number(out, place, refusal.place as u64)
 }
@@ -72,7 +72,7 @@ pub fn answer_line(number: u64, line: &[u8], out: &mut [u8; ANSWER]) -> usize
 {
     let Some(question) = question_of(line) else {
         let refusal = Refusal {
-            number: 12,
+            reason: Reason::MalformedLine,
             place: 0,
         };
         return put_line(out, number, b"", Err(refusal));

@@ -10,6 +10,7 @@ use borrow.Author.Tests.{ltb-true}
 use Rattle.notation.specs.declared.codes.Code.{Code}
 use Rattle.notation.specs.Ceilings.{connective_ceiling}
 use Rattle.notation.specs.Reading.{refusal, reading}
+use Rattle.notation.specs.declared.refusal.Reason.TheVariants.{NoState}
 use Rattle.notation.specs.declared.refusal.Refusal.{Refusal}
 use Rattle.reading.specs.declared.parse.Guard as counted
 use Rattle.reading.proofs.Serving as serving
@@ -27,12 +28,12 @@ pub lists-searchable : (start n : ℕ) → ltb start (2 ^ n) ≡ true → start 
 lists-searchable start n h = let soon : start < 2 ^ n = ltb-true start (2 ^ n) h in omega arith
 
 module _ (text : List ℕ) (start : ℕ) (out : List ℕ) where
-  pub lists-refusal : (f : Refusal) → reading text ≡ refusal f.number f.place → Lists text start out (Err f) out
+  pub lists-refusal : (f : Refusal) → reading text ≡ refusal f.reason f.place → Lists text start out (Err f) out
   unfolding listed filled
   lists-refusal f e = record { answers = rw e refl; holds = rw e refl }
 
   module _ (x : counted.Guard) (codes : List Code) (xs : List ℕ) (f : serving.Found text (reading text) x codes xs) where
-    pub lists-no-state : ltb start (2 ^ x.flags) ≡ false → Lists text start out (Err (record { number = 9; place = 0 })) out
+    pub lists-no-state : ltb start (2 ^ x.flags) ≡ false → Lists text start out (Err (record { reason = NoState; place = 0 })) out
     unfolding listed filled
     lists-no-state h =
         let late : ltb start (2 ^ length f.flags) ≡ false = rw (read_flags text x codes xs f) at h in

@@ -2,6 +2,7 @@
 use Rattle.std.specs.Prelude.{ℕ, ◌^◌, ◌<◌, ◌≡◌, List, [], ◌∷◌, ◌⊎◌, length, ltb, Result, Ok, Err}
 use Rattle.ground.specs.Choice.{choose}
 use Rattle.notation.specs.Reading.{Reading, refusal, guard, reading}
+use Rattle.notation.specs.declared.refusal.Reason.TheVariants.{NoState}
 use Rattle.notation.specs.declared.refusal.Refusal.{Refusal}
 use Rattle.gaps.specs.declared.writing.Found.{Found}
 use Rattle.gaps.specs.Gaps.{gaps_from}
@@ -13,13 +14,13 @@ Listing = Result Found Refusal
 
 -- a refusal of reading is answered; then a start that is no state is refused 9; else the gaps from the start on are written, as far as there is room
 unfoldable pub listed : Reading → ℕ → ℕ → Listing
-listed (refusal number p) start room = Err (record { number = number; place = p })
+listed (refusal reason p) start room = Err (record { reason = reason; place = p })
 listed (guard g codes) start room =
-    choose (ltb start (2 ^ length codes)) (Ok (found (gaps_from (length codes) g start) room)) (Err (record { number = 9; place = 0 }))
+    choose (ltb start (2 ^ length codes)) (Ok (found (gaps_from (length codes) g start) room)) (Err (record { reason = NoState; place = 0 }))
 
 -- the slice holds the gaps from the start on, as many as it has room for; a refusal leaves it alone
 unfoldable pub filled : Reading → ℕ → List ℕ → List ℕ
-filled (refusal number p) start out = out
+filled (refusal reason p) start out = out
 filled (guard g codes) start out = choose (ltb start (2 ^ length codes)) (placed (gaps_from (length codes) g start) out) out
 
 -- list's statement

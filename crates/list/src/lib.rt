@@ -6,7 +6,7 @@ ghost use Rattle.list.specs.Listed.{Lists};
 use gaps::writing::Found;
 use notation::ceilings::{FLAGS, TRIPLETS_ROOM};
 use notation::codes::Code;
-use notation::refusal::Refusal;
+use notation::refusal::{Reason, Refusal};
 use reading::parse::parse;
 use search::search;
 use truth::formula::Formula;
@@ -21,7 +21,7 @@ pub fn list(text: &[u8], start: u64, out: &mut [u32]) -> Result<Found, Refusal>
     let guard = parse(text, &mut codes, &mut triplets)?;
     if !is_state(start, guard.flags) {
         return Err(Refusal {
-            number: 9,
+            reason: Reason::NoState,
             place: 0,
         });
     }

@@ -7,6 +7,7 @@ use Rattle.std.specs.Prelude.{Result, Ok, Err}
 use Rattle.notation.specs.Tokens.{tokens_at}
 use Rattle.notation.specs.clauses.Cut.{PastSpaces, NextToken, FaultyHere}
 use Rattle.notation.specs.clauses.Place.{RefusedAt, CutSays}
+use Rattle.notation.specs.declared.refusal.Reason.{Reason}
 use Rattle.notation.specs.declared.refusal.Refusal.{Refusal}
 use Rattle.notation.specs.declared.refusal.Refused.{Refused}
 use Rattle.notation.specs.declared.place.Token.{Token}
@@ -27,8 +28,8 @@ taken-stored n = record {
 }
 
 -- the refusal that was stored is that of the next token
-pub refused-stored : {text : List ℕ} {p p' : Place} {from n s : ℕ} {r : Refused} → RefusedAt n s p p' →
-    FaultyHere (tokens_at text from) (record { number = n; place = s }) → CutSays text from p (Err r) p'
+pub refused-stored : {text : List ℕ} {p p' : Place} {from : ℕ} {n : Reason} {s : ℕ} {r : Refused} → RefusedAt n s p p' →
+    FaultyHere (tokens_at text from) (record { reason = n; place = s }) → CutSays text from p (Err r) p'
 refused-stored {text} {p} {p'} {from} t h = record {
   taken = λ e. never_both e refl;
   refused = λ _ _. subst (λ (x : Refusal). FaultyHere (tokens_at text from) x) (sym t.refusal) h;

@@ -2,7 +2,7 @@
 ghost use Rattle.std.specs.Prelude.{◌≡◌};
 ghost use Rattle.notation.specs.clauses.Place.{before, RefusedAt};
 
-use crate::refusal::{Refusal, Refused};
+use crate::refusal::{Reason, Refusal, Refused};
 
 // A two-sided connective: `=`, `>`, `|`, `&`.
 #[derive(Clone, Copy, PartialEq)]
@@ -53,8 +53,9 @@ impl Place {
             start: 0,
             next: from,
         };
+        // Nothing was refused yet, so it stands for nothing.
         let refusal = Refusal {
-            number: 0,
+            reason: Reason::OutOfPlace,
             place: 0,
         };
         Place {
@@ -66,19 +67,19 @@ impl Place {
         }
     }
 
-    // Refused with this number at this place of the text.
-    pub fn refuse(&mut self, number: usize, place: usize) -> Refused
-        ensures { RefusedAt number place self.old self.new }
+    // Refused for this reason at this place of the text.
+    pub fn refuse(&mut self, reason: Reason, place: usize) -> Refused
+        ensures { RefusedAt reason place self.old self.new }
     {
-        self.refusal = Refusal { number, place };
+        self.refusal = Refusal { reason, place };
         Refused
     }
 
-    // Refused with this number at the token ahead.
-    pub fn refuse_ahead(&mut self, number: usize) -> Refused
-        ensures { RefusedAt number self.old.token.start self.old self.new }
+    // Refused for this reason at the token ahead.
+    pub fn refuse_ahead(&mut self, reason: Reason) -> Refused
+        ensures { RefusedAt reason self.old.token.start self.old self.new }
     {
         let start = self.token.start;
-        self.refuse(number, start)
+        self.refuse(reason, start)
     }
 }

@@ -33,6 +33,7 @@ use Rattle.operands.specs.clauses.Steps.{
   AtomSays,
   ClosedSays,
 }
+use Rattle.notation.specs.declared.refusal.Reason.TheVariants.{OutOfPlace, ManyFlags}
 use Rattle.notation.specs.declared.refusal.Refusal.{Refusal}
 use Rattle.notation.specs.declared.codes.Code.{Code}
 use Rattle.notation.specs.declared.place.Kind.{Kind}
@@ -158,7 +159,7 @@ module _ (text : List ℕ) (at : At) (codes : List Code) (st : Standing text cod
 
   -- the walk at a code
   code-walked : (d : ℕ) → walk operand d flags at.signs (ahead text at.token)
-      ≡ within (length (seen at.token.start name flags)) flag_ceiling 7 at.token.start
+      ≡ within (length (seen at.token.start name flags)) flag_ceiling ManyFlags at.token.start
       (walk after d (seen at.token.start name flags) at.signs (past (ahead text at.token)))
   unfolding walk
   code-walked d = ap (walk operand d flags at.signs) ahead-is
@@ -227,17 +228,17 @@ module _ (text : List ℕ) (at : At) (codes : List Code) (st : Standing text cod
 
     -- unless there are as many flags as there may be
     pub too_many : at.flags ≤ r → flag_ceiling ≤ at.flags → (d : ℕ) →
-        walk operand d (flags_in text codes at.flags) at.signs (ahead text at.token) ≡ refused 7 at.token.start
+        walk operand d (flags_in text codes at.flags) at.signs (ahead text at.token) ≡ refused ManyFlags at.token.start
     unfolding within flags
     too_many h i d = code-walked d ∙ rw (longer h, lt-leb (at.flags + 1) flag_ceiling (omega arith))
 
 -- a 25th flag
 pub too-many-says : {text : List ℕ} {p : Place} {codes : List Code} {p' : Place} {y : Refused} →
-    ((d : ℕ) → walk operand d (flags_in text codes p.flags) p.signs (ahead text p.token) ≡ refused 7 p.token.start) →
-    RefusedAt 7 p.token.start p p' → AtomSays text p codes (Err y) p' codes
+    ((d : ℕ) → walk operand d (flags_in text codes p.flags) p.signs (ahead text p.token) ≡ refused ManyFlags p.token.start) →
+    RefusedAt ManyFlags p.token.start p p' → AtomSays text p codes (Err y) p' codes
 too-many-says h c = record {
   found = λ l e. never_both e refl;
-  refused = λ _ _ d. h d ∙ ap (λ (f : Refusal). refused f.number f.place) (sym c.refusal);
+  refused = λ _ _ d. h d ∙ ap (λ (f : Refusal). refused f.reason f.place) (sym c.refusal);
 }
 
 -- at a closing bracket the guard in brackets is an operand
@@ -265,7 +266,7 @@ closing-parsed kind.Closing text p e g u h = refl
 
 -- another token, no sign, cannot stand there
 pub no-closing : (k : Kind) (text : List ℕ) (p e d : ℕ) (u : List Flag) (m : ℕ) → joins k ≡ false → closes k ≡ false →
-    walk after (suc d) u m (ahead_as k text p e) ≡ refused 5 p
+    walk after (suc d) u m (ahead_as k text p e) ≡ refused OutOfPlace p
 unfolding walk ahead_as
 no-closing kind.End text p e d u m i h = refl
 no-closing kind.Code text p e d u m i h = refl
@@ -297,12 +298,12 @@ module _ {text : List ℕ} {p p' : Place} where
     refused = λ x e d u m. closing-walked p.token.kind text p.token.start p.token.next d u m k ∙ a.refused x e after d u m;
   }
 
-  pub closed-refused : {x : Refused} → joins p.token.kind ≡ false → closes p.token.kind ≡ false → RefusedAt 5 p.token.start p p' →
+  pub closed-refused : {x : Refused} → joins p.token.kind ≡ false → closes p.token.kind ≡ false → RefusedAt OutOfPlace p.token.start p p' →
       ClosedSays text p (Err x) p'
   closed-refused j k c = record {
     taken = λ e. never_both e refl;
     refused = λ _ _ d u m.
-        no-closing p.token.kind text p.token.start p.token.next d u m j k ∙ ap (λ (f : Refusal). refused f.number f.place) (sym c.refusal);
+        no-closing p.token.kind text p.token.start p.token.next d u m j k ∙ ap (λ (f : Refusal). refused f.reason f.place) (sym c.refusal);
   }
 
 -- no operand starts with the end, a sign or a closing bracket
@@ -326,7 +327,7 @@ no-opener kind.Opening b c t o = absurd (o refl)
 no-opener kind.Closing b c t o = refl
 
 pub no_operand : (k : Kind) (text : List ℕ) (p e d : ℕ) (u : List Flag) (m : ℕ) → opens k ≡ false →
-    walk operand d u m (ahead_as k text p e) ≡ refused 5 p
+    walk operand d u m (ahead_as k text p e) ≡ refused OutOfPlace p
 unfolding walk ahead_as
 no_operand kind.End text p e d u m h = refl
 no_operand kind.Code text p e d u m h = absurd (true≢false h)

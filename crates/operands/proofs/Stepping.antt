@@ -16,6 +16,7 @@ use Rattle.notation.specs.clauses.Cut.{ahead_as, ahead, ends, sign_of}
 use Rattle.notation.specs.clauses.Place.{RefusedAt, CutSays}
 use Rattle.notation.proofs.Placing.{never_both}
 use Rattle.operands.specs.clauses.Steps.{binding, kind_is, joins, TokenFits, AdvancedSays, PastSignSays}
+use Rattle.notation.specs.declared.refusal.Reason.TheVariants.{ManyConnectives}
 use Rattle.notation.specs.declared.refusal.Refusal.{Refusal}
 use Rattle.notation.specs.declared.refusal.Refused.{Refused}
 use Rattle.notation.specs.declared.place.Kind.{Kind}
@@ -86,7 +87,7 @@ past-ahead kind.Closing text p e h = refl
 
 -- a sign past the ceiling is refused
 pub sign-refused : (k : Kind) (text : List ℕ) (p e d : ℕ) (u : List Flag) (m : ℕ) → joins k ≡ true → connective_ceiling ≤ m →
-    walk after d u m (ahead_as k text p e) ≡ refused 8 p
+    walk after d u m (ahead_as k text p e) ≡ refused ManyConnectives p
 unfolding walk within ahead_as
 sign-refused kind.End text p e d u m h l = absurd (true≢false (sym h))
 sign-refused kind.Code text p e d u m h l = absurd (true≢false (sym h))
@@ -163,13 +164,13 @@ module _ (text : List ℕ) (p : Place) (fits : TokenFits text p.token) (j : join
       }
 
   -- past the ceiling it is refused
-  pub past-sign-refused : {p' : Place} {x : Refused} → connective_ceiling ≤ p.signs → RefusedAt 8 p.token.start p p' →
+  pub past-sign-refused : {p' : Place} {x : Refused} → connective_ceiling ≤ p.signs → RefusedAt ManyConnectives p.token.start p p' →
       PastSignSays text p (Err x) p'
   past-sign-refused l c = record {
     taken = λ e. never_both e refl;
     refused = λ _ _ d u.
         sign-refused p.token.kind text p.token.start p.token.next d u p.signs j l
-        ∙ ap (λ (f : Refusal). refused f.number f.place) (sym c.refusal);
+        ∙ ap (λ (f : Refusal). refused f.reason f.place) (sym c.refusal);
   }
 
 same_self : (s : Sign) → same_sign s s ≡ true

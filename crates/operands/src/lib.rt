@@ -15,7 +15,7 @@ ghost use Rattle.operands.specs.clauses.Steps.{PastTokenSays, AtomSays, TruthSay
 use notation::ceilings::{CONNECTIVES, FLAGS, TRIPLETS_ROOM};
 use notation::codes::{Code, place_of};
 use notation::place::{Connective, Kind, Place};
-use notation::refusal::Refused;
+use notation::refusal::{Reason, Refused};
 use notation::tokens::token_at;
 use notation::triplets;
 
@@ -35,7 +35,7 @@ pub fn past_sign(text: &[u8], at: &mut Place) -> Result<(), Refused>
     ensures { PastSignSays text.now at.old result at.new }
 {
     if CONNECTIVES <= at.signs {
-        return Err(at.refuse_ahead(8));
+        return Err(at.refuse_ahead(Reason::ManyConnectives));
     }
     at.signs += 1;
     token_at(text, at)
@@ -110,7 +110,7 @@ pub fn code_operand(text: &[u8], at: &mut Place, codes: &mut [Code; FLAGS]) -> R
         return past_token(text, at, flag_literal(place));
     }
     if FLAGS <= flags {
-        return Err(at.refuse_ahead(7));
+        return Err(at.refuse_ahead(Reason::ManyFlags));
     }
     codes[flags] = code;
     at.flags = flags + 1;
@@ -146,5 +146,5 @@ pub fn closed(text: &[u8], at: &mut Place) -> Result<(), Refused>
     if closing_follows(at) {
         return advanced(text, at);
     }
-    Err(at.refuse_ahead(5))
+    Err(at.refuse_ahead(Reason::OutOfPlace))
 }

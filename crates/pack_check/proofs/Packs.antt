@@ -8,6 +8,7 @@ use borrow.Author.Tests.{le-leb, lt-leb}
 use Rattle.notation.specs.declared.codes.Code.{Code}
 use Rattle.notation.specs.Ceilings.{connective_ceiling}
 use Rattle.notation.specs.Refusals.{fault}
+use Rattle.notation.specs.declared.refusal.Reason.TheVariants.{HighDepth}
 use Rattle.notation.specs.declared.refusal.Refusal.{Refusal}
 use Rattle.guard_check.specs.Check.{depth_ceiling}
 use Rattle.building.specs.declared.spans.GuardSpan.{GuardSpan}
@@ -21,7 +22,7 @@ use Rattle.pack_check.specs.PackCheck.{asked, PackVerdict, PackReadingSays, Pack
 use Rattle.pack_check.specs.clauses.Asking.{Stands, LineAnswered}
 use Rattle.pack_check.specs.declared.verdict.LineVerdict.{LineVerdict}
 
-asks-deep : (file : List ℕ) (depth : ℕ) → depth_ceiling < depth → asked file depth ≡ refusal (fault 2 0)
+asks-deep : (file : List ℕ) (depth : ℕ) → depth_ceiling < depth → asked file depth ≡ refusal (fault HighDepth 0)
 unfolding asked
 asks-deep file depth d = rw (lt-leb depth depth_ceiling d)
 
@@ -34,8 +35,8 @@ says : (file : List ℕ) (depth : ℕ) (x : PackReading) (r : PackVerdict) → a
 says file depth x r e s = subst (λ u. PackReadingSays u depth r) (sym e) s
 
 -- a depth over its ceiling
-pub too-deep : (file : List ℕ) (depth : ℕ) → depth_ceiling < depth → (f : Refusal) → f ≡ fault 2 0 → PackChecked file depth (Err f)
-too-deep file depth d f e = says file depth (refusal (fault 2 0)) _ (asks-deep file depth d) (ap Err e)
+pub too-deep : (file : List ℕ) (depth : ℕ) → depth_ceiling < depth → (f : Refusal) → f ≡ fault HighDepth 0 → PackChecked file depth (Err f)
+too-deep file depth d f e = says file depth (refusal (fault HighDepth 0)) _ (asks-deep file depth d) (ap Err e)
 
 -- the refusal that reading answered is that of the pack
 refusal-found : (file : List ℕ) (x : PackReading) (r : Pack) (codes : List Code) (pool : List ℕ) (spans : List GuardSpan)

@@ -11,6 +11,7 @@ use Rattle.questions.specs.Questions.{whole_of, pair_of}
 use Rattle.packs.specs.Pack.{PackReading, refusal, line, pack_read}
 use Rattle.pack_check.specs.declared.verdict.Overlap.{Overlap}
 use Rattle.pack_check.specs.declared.verdict.LineVerdict.{LineVerdict}
+use Rattle.notation.specs.declared.refusal.Reason.TheVariants.{HighDepth}
 use Rattle.notation.specs.declared.refusal.Refusal.{Refusal}
 
 -- both answers of a line, or the refusal of its pack
@@ -27,7 +28,7 @@ pair_with i j v = Some (record { first = i; second = j; verdict = v })
 
 -- a depth over its ceiling is refused first; then the pack decides
 unfoldable pub asked : List ℕ → ℕ → PackReading
-asked file depth = choose (leb depth depth_ceiling) (pack_read file) (refusal (fault 2 0))
+asked file depth = choose (leb depth depth_ceiling) (pack_read file) (refusal (fault HighDepth 0))
 
 -- i and j are two of the variants, counted from 1, i below j
 pub record IsPair (variants : List Guard) (i j : ℕ) : Type 0 where

@@ -11,7 +11,7 @@ use building::spans::GuardSpan;
 use guard_check::check::DEPTH;
 use notation::ceilings::{FLAGS, TRIPLETS_ROOM};
 use notation::codes::Code;
-use notation::refusal::{Refusal, fault};
+use notation::refusal::{Reason, Refusal, fault};
 use packs::read::read_pack;
 use questions::GUARDS;
 
@@ -38,7 +38,7 @@ pub fn check_pack(pack: &[u8], depth: u64) -> Result<LineVerdict, Refusal>
     ensures { PackChecked pack.now depth result }
 {
     if DEPTH < depth {
-        return Err(fault(2, 0));
+        return Err(fault(Reason::HighDepth, 0));
     }
     let mut codes = [Code::NONE; FLAGS];
     let mut pool = [0u16; TRIPLETS_ROOM];

@@ -11,7 +11,9 @@ use lib.Dec.{leb, ltb}
 use borrow.Author.Tests.{leb-true}
 use Rattle.ground.specs.Choice.{choose}
 use Rattle.ground.proofs.Cases.{lt-or-ge}
-use Rattle.notation.specs.Refusals.{fault}
+use Rattle.notation.specs.Refusals.{fault, number_of}
+use Rattle.notation.specs.declared.refusal.Reason.{Reason}
+use Rattle.notation.specs.declared.refusal.Reason.TheVariants.{WrongField, WrongVariants, WrongId}
 use Rattle.notation.specs.declared.refusal.Refusal.{Refusal}
 use Rattle.notation.specs.Walk.{Flag}
 use Rattle.notation.specs.Guard.{Guard}
@@ -63,7 +65,7 @@ pieces-ascend p (suc k) (b ∷ bs) h =
 
 -- ---- the place of a field's refusal: the field's own, or one in its guard
 abbrev StepPlace : ℕ → ℕ → Refusal → Type 0
-StepPlace p e f = ((f.place ≡ p) × (first_of_field ≤ f.number)) ⊎ ((p < f.place) × (f.place ≤ e) × (f.number ≤ last_of_guard))
+StepPlace p e f = ((f.place ≡ p) × (first_of_field ≤ number_of f.reason)) ⊎ ((p < f.place) × (f.place ≤ e) × (number_of f.reason ≤ last_of_guard))
 
 guarded : (file : List ℕ) (p e : ℕ) (u : List Flag) (R : Reading) → R ≡ reading_from (take e file) (p + header) u → p + header ≤ e
     → (next : Guard → List Flag → Next) → ((g : Guard) (v : List Flag) (f : Refusal) → next g v ≡ refused f → ⊥) → (f : Refusal)
@@ -71,11 +73,11 @@ guarded : (file : List ℕ) (p e : ℕ) (u : List Flag) (R : Reading) → R ≡ 
 unfolding with_guard
 guarded file p e u (read.refusal k q) r h next n f x =
     let same : fault k q ≡ f = cc in
-    let a : Inside (p + header) e f = guard-place file (p + header) e u f h (sym r ∙ ap (λ (y : Refusal). read.refusal y.number y.place) same) in
+    let a : Inside (p + header) e f = guard-place file (p + header) e u f h (sym r ∙ ap (λ (y : Refusal). read.refusal y.reason y.place) same) in
     inr (omega (arith, a.0), a.1, a.2)
 guarded file p e u (read.guard g v) r h next n f x = absurd (n g v f x)
 
-same-fault : (k p e : ℕ) (f : Refusal) → refused (fault k p) ≡ refused f → first_of_field ≤ k → StepPlace p e f
+same-fault : (k : Reason) (p e : ℕ) (f : Refusal) → refused (fault k p) ≡ refused f → first_of_field ≤ number_of k → StepPlace p e f
 same-fault k p e f x b = let same : fault k p ≡ f = cc in subst (λ (g : Refusal). StepPlace p e g) same (inl (refl, b))
 
 never-refused : (d : Due) (l : Line) (f : Refusal) → on d l ≡ refused f → ⊥
@@ -84,39 +86,39 @@ never-refused d l f x = let z : ◌≡◌ {A = ℕ} 0 1 = cc in omega arith
 step-place : (file : List ℕ) (l : Line) (p e : ℕ) (r : Role) (f : Refusal) → p + header ≤ e → step_as r file l p (p + header) e ≡ refused f
     → StepPlace p e f
 unfolding step_as
-step-place file l p e is.Wrong f h x = same-fault 13 p e f x (omega arith)
+step-place file l p e is.Wrong f h x = same-fault WrongField p e f x (omega arith)
 step-place file l p e is.Id f h x = go (ltb 0 (e - (p + header))) (leb (e - (p + header)) id_ceiling) x
   where
-    go : (a b : Bool) → choose a (choose b (on due.RuleOrVariant l) (refused (fault 15 p))) (refused (fault 15 p)) ≡ refused f → StepPlace p e f
+    go : (a b : Bool) → choose a (choose b (on due.RuleOrVariant l) (refused (fault WrongId p))) (refused (fault WrongId p)) ≡ refused f → StepPlace p e f
     go true true y = absurd (never-refused due.RuleOrVariant l f y)
-    go true false y = same-fault 15 p e f y (omega arith)
-    go false b y = same-fault 15 p e f y (omega arith)
+    go true false y = same-fault WrongId p e f y (omega arith)
+    go false b y = same-fault WrongId p e f y (omega arith)
 step-place file l p e is.Rule f h x =
     guarded file p e l.flags (guard_in file l (p + header) e) refl h (λ g u. on due.Variant (ruled l g u))
     (λ g u f y. never-refused due.Variant (ruled l g u) f y) f x
 step-place file l p e is.Variant f h x = go (ltb (length l.variants) variant_ceiling) x
   where
-    go : (a : Bool) → choose a (with_guard (guard_in file l (p + header) e) (λ g u. on due.Text (varied l g u))) (refused (fault 14 p)) ≡ refused f
+    go : (a : Bool) → choose a (with_guard (guard_in file l (p + header) e) (λ g u. on due.Text (varied l g u))) (refused (fault WrongVariants p)) ≡ refused f
         → StepPlace p e f
     go true y =
         guarded file p e l.flags (guard_in file l (p + header) e) refl h (λ g u. on due.Text (varied l g u))
         (λ g u f z. never-refused due.Text (varied l g u) f z) f y
-    go false y = same-fault 14 p e f y (omega arith)
+    go false y = same-fault WrongVariants p e f y (omega arith)
 step-place file l p e is.Text f h x = absurd (never-refused due.VariantOrEnd (texted l (p + header) e) f x)
 
 -- ---- every fault from a place on lies there or later, and at that place it is none of a guard's
 abbrev AtPlace : ℕ → Refusal → Type 0
-AtPlace p f = (f.place ≡ p) × (first_of_field ≤ f.number)
+AtPlace p f = (f.place ≡ p) × (first_of_field ≤ number_of f.reason)
 
-at_place : (k p : ℕ) (f : Refusal) → refusal (fault k p) ≡ refusal f → first_of_field ≤ k → AtPlace p f
+at_place : (k : Reason) (p : ℕ) (f : Refusal) → refusal (fault k p) ≡ refusal f → first_of_field ≤ number_of k → AtPlace p f
 at_place k p f x b = let same : fault k p ≡ f = cc in subst (λ (g : Refusal). AtPlace p g) same (refl, b)
 
 end-place : (d : Due) (l : Line) (p : ℕ) (f : Refusal) → end_as d l p ≡ refusal f → AtPlace p f
 unfolding end_as
-end-place due.Id l p f x = at_place 13 p f x (omega arith)
-end-place due.RuleOrVariant l p f x = at_place 14 p f x (omega arith)
-end-place due.Variant l p f x = at_place 14 p f x (omega arith)
-end-place due.Text l p f x = at_place 13 p f x (omega arith)
+end-place due.Id l p f x = at_place WrongField p f x (omega arith)
+end-place due.RuleOrVariant l p f x = at_place WrongVariants p f x (omega arith)
+end-place due.Variant l p f x = at_place WrongVariants p f x (omega arith)
+end-place due.Text l p f x = at_place WrongField p f x (omega arith)
 end-place due.VariantOrEnd l p f x = let z : ◌≡◌ {A = ℕ} 0 1 = cc in absurd (omega arith)
 
 abbrev Later : ℕ → Refusal → Type 0
@@ -138,7 +140,7 @@ module _ (file : List ℕ) where
       go (refused f₀) s rec = ⊎_elim
           (λ (y : f ≡ f₀). ⊎_elim
           (λ (z : AtPlace p f). inr (z.0 ∙ h.0, z.1))
-          (λ (z : (p < f.place) × (f.place ≤ e) × (f.number ≤ last_of_guard)). inl (omega (arith, z.0, h.0)))
+          (λ (z : (p < f.place) × (f.place ≤ e) × (number_of f.reason ≤ last_of_guard)). inl (omega (arith, z.0, h.0)))
           (step-place file l p e (role_of d tag) f (omega (arith, h.0, h.1)) (s ∙ ap refused (sym y))))
           (λ (y : (d' : Due) × (l' : Line) × FaultIn file d' l' rest f). after-e (rec y.0 y.1 y.2))
       go (on d' l') s rec = λ x'. after-e (rec d' l' x')
@@ -153,7 +155,7 @@ module _ (file : List ℕ) where
       (λ (w : AtPlace p f). ⊎_elim
       (λ (v : e < g.place). inl (omega (arith, w.0)))
       (λ (v : AtPlace e g). inl (omega (arith, w.0, v.0))))
-      (λ (w : (p < f.place) × (f.place ≤ e) × (f.number ≤ last_of_guard)). ⊎_elim
+      (λ (w : (p < f.place) × (f.place ≤ e) × (number_of f.reason ≤ last_of_guard)). ⊎_elim
       (λ (v : e < g.place). inl (omega (arith, w.1)))
       (λ (v : AtPlace e g). ⊎_elim
       (λ (u : f.place < g.place). inl u)
@@ -168,7 +170,7 @@ module _ (file : List ℕ) where
       → FaultIn file d l ps g → NotAfter f g
   unfolding pack_from led
   first d l (fields.end p) a f h e g x = let y : refusal f ≡ refusal g = sym e ∙ x in let same : f ≡ g = cc in same_place f g same
-  first d l (fields.short p) a f h e g x = let same : fault 13 p ≡ f = cc in same_place f g (sym same ∙ sym x)
+  first d l (fields.short p) a f h e g x = let same : fault WrongField p ≡ f = cc in same_place f g (sym same ∙ sym x)
   first d l (fields.field p tag b rest) a f h e g x =
       go (step_as (role_of d tag) file l p (p + header) b) refl (λ d' l' e' x'. first d' l' rest b f h.2 e' g x') e x
     where
@@ -192,7 +194,7 @@ module _ (file : List ℕ) where
   is_one : (d : Due) (l : Line) (ps : Pieces) (f : Refusal) → pack_from file d l ps ≡ refusal f → FaultIn file d l ps f
   unfolding pack_from led
   is_one d l (fields.end p) f e = e
-  is_one d l (fields.short p) f e = let same : fault 13 p ≡ f = cc in sym same
+  is_one d l (fields.short p) f e = let same : fault WrongField p ≡ f = cc in sym same
   is_one d l (fields.field p tag b rest) f e = go (step_as (role_of d tag) file l p (p + header) b) (λ d' l' e'. is_one d' l' rest f e') e
     where
       go : (n : Next) → ((d' : Due) (l' : Line) → pack_from file d' l' rest ≡ refusal f → FaultIn file d' l' rest f)

@@ -1,7 +1,7 @@
 -- Where a guard of a pack is refused: with one of the outline's numbers, at a place from its start to its end.
 use Prim.Native.Nat.{ℕ, zero, suc, ◌+◌, ◌-◌, ◌≤◌, ◌<◌}
 use native.Mathlib.Omega.{arith}
-use mathlib.Core.Path.{◌≡◌}
+use mathlib.Core.Path.{◌≡◌, subst}
 use mathlib.Core.Bool.{Bool, true, false}
 use mathlib.Core.List.{List, [], ◌∷◌}
 use mathlib.Core.Logic.{⊎_elim}
@@ -11,7 +11,9 @@ use lib.Dec.{leb, eqb}
 use borrow.Author.Tests.{leb-false}
 use Rattle.ground.specs.Choice.{choose}
 use Rattle.ground.proofs.Cases.{either, lt-or-ge}
-use Rattle.notation.specs.Refusals.{fault}
+use Rattle.notation.specs.Refusals.{fault, number_of}
+use Rattle.notation.specs.declared.refusal.Reason.{Reason}
+use Rattle.notation.specs.declared.refusal.Reason.TheVariants.{LongText, ManyBrackets, ManyFlags, ManyConnectives}
 use Rattle.notation.specs.declared.refusal.Refusal.{Refusal}
 use Rattle.notation.specs.Ceilings.{text_ceiling, flag_ceiling, bracket_ceiling, connective_ceiling}
 use Rattle.notation.specs.Tokens.{Tokens, stray, long, code, hash, bang, sign, opening, closing, end, at, token_of, further, tokens_from, tokens_at}
@@ -29,7 +31,7 @@ TokensIn lo hi (at p t ts) = (lo ≤ p) × (p ≤ hi) × TokensIn lo hi ts
 
 -- a guard's number, at a place from lo to hi
 abbrev pub Inside : ℕ → ℕ → Refusal → Type 0
-Inside lo hi f = (lo ≤ f.place) × (f.place ≤ hi) × (f.number ≤ last_of_guard)
+Inside lo hi f = (lo ≤ f.place) × (f.place ≤ hi) × (number_of f.reason ≤ last_of_guard)
 
 abbrev OutcomeIn : ℕ → ℕ → Outcome → Type 0
 OutcomeIn lo hi (refused k p) = Inside lo hi (fault k p)
@@ -49,12 +51,12 @@ tokens-in lo hi p zero (c ∷ bs) a b =
 tokens-in lo hi p (suc k) (c ∷ bs) a b = tokens-in lo hi (suc p) k bs (omega arith) (omega arith)
 
 module _ (lo hi : ℕ) where
-  within_in : (k ceiling number p : ℕ) (rest : Outcome) → Inside lo hi (fault number p) → OutcomeIn lo hi rest
-      → OutcomeIn lo hi (within k ceiling number p rest)
+  within_in : (k ceiling : ℕ) (reason : Reason) (p : ℕ) (rest : Outcome) → Inside lo hi (fault reason p) → OutcomeIn lo hi rest
+      → OutcomeIn lo hi (within k ceiling reason p rest)
   unfolding within
-  within_in k ceiling number p rest a r = go (leb k ceiling)
+  within_in k ceiling reason p rest a r = go (leb k ceiling)
     where
-      go : (t : Bool) → OutcomeIn lo hi (choose t rest (refused number p))
+      go : (t : Bool) → OutcomeIn lo hi (choose t rest (refused reason p))
       go true = r
       go false = a
 
@@ -64,13 +66,13 @@ module _ (lo hi : ℕ) where
   walk-in operand d u m (at p stray ts) t = (t.0, t.1, omega arith)
   walk-in operand d u m (at p long ts) t = (t.0, t.1, omega arith)
   walk-in operand d u m (at p (code c) ts) t =
-      within_in (length (seen p c u)) flag_ceiling 7 p (walk after d (seen p c u) m ts) (t.0, t.1, omega arith)
+      within_in (length (seen p c u)) flag_ceiling ManyFlags p (walk after d (seen p c u) m ts) (t.0, t.1, omega arith)
       (walk-in after d (seen p c u) m ts t.2)
   walk-in operand d u m (at p (hash b) ts) t = walk-in after d u m ts t.2
   walk-in operand d u m (at p bang ts) t = walk-in operand d u m ts t.2
   walk-in operand d u m (at p (sign s) ts) t = (t.0, t.1, omega arith)
   walk-in operand d u m (at p opening ts) t =
-      within_in (suc d) bracket_ceiling 6 p (walk operand (suc d) u m ts) (t.0, t.1, omega arith) (walk-in operand (suc d) u m ts t.2)
+      within_in (suc d) bracket_ceiling ManyBrackets p (walk operand (suc d) u m ts) (t.0, t.1, omega arith) (walk-in operand (suc d) u m ts t.2)
   walk-in operand d u m (at p closing ts) t = (t.0, t.1, omega arith)
   walk-in after zero u m (end p) t = tt
   walk-in after (suc d) u m (end p) t = (t.0, t.1, omega arith)
@@ -80,21 +82,21 @@ module _ (lo hi : ℕ) where
   walk-in after d u m (at p (hash b) ts) t = (t.0, t.1, omega arith)
   walk-in after d u m (at p bang ts) t = (t.0, t.1, omega arith)
   walk-in after d u m (at p (sign s) ts) t =
-      within_in (suc m) connective_ceiling 8 p (walk operand d u (suc m) ts) (t.0, t.1, omega arith) (walk-in operand d u (suc m) ts t.2)
+      within_in (suc m) connective_ceiling ManyConnectives p (walk operand d u (suc m) ts) (t.0, t.1, omega arith) (walk-in operand d u (suc m) ts t.2)
   walk-in after d u m (at p opening ts) t = (t.0, t.1, omega arith)
   walk-in after zero u m (at p closing ts) t = (t.0, t.1, omega arith)
   walk-in after (suc d) u m (at p closing ts) t = walk-in after d u m ts t.2
 
-  judged-in : (o : Outcome) (g : Guard) (f : Refusal) → OutcomeIn lo hi o → judged o g ≡ refusal f.number f.place → Inside lo hi f
+  judged-in : (o : Outcome) (g : Guard) (f : Refusal) → OutcomeIn lo hi o → judged o g ≡ refusal f.reason f.place → Inside lo hi f
   unfolding judged
   judged-in (refused k p) g f h e =
-      let number : k ≡ f.number = cc in
+      let reason : k ≡ f.reason = cc in
       let place : p ≡ f.place = cc in
-      rw (number, place) at h
+      rw (reason, place) at h
   judged-in (accepted u m) g f h e = let z : ◌≡◌ {A = ℕ} 0 1 = cc in absurd (omega arith)
 
 -- a guard from s to e is refused at a place from s to e
-pub guard-place : (file : List ℕ) (s e : ℕ) (u : List Flag) (f : Refusal) → s ≤ e → reading_from (take e file) s u ≡ refusal f.number f.place
+pub guard-place : (file : List ℕ) (s e : ℕ) (u : List Flag) (f : Refusal) → s ≤ e → reading_from (take e file) s u ≡ refusal f.reason f.place
     → Inside s e f
 unfolding reading_from tokens_at
 guard-place file s e u f h r =
@@ -105,10 +107,10 @@ guard-place file s e u f h r =
     (tokens-in s e s 0 (drop s (take e file)) (omega arith) (omega (arith, length-drop s (take e file), short)))) (rw b at r))
     (λ (b : leb (length (take e file) - s) text_ceiling ≡ false).
     let over : text_ceiling < length (take e file) - s = leb-false (length (take e file) - s) text_ceiling b in
-    let x : refusal 1 (s + text_ceiling) ≡ refusal f.number f.place = rw b at r in
-    let number : ◌≡◌ {A = ℕ} 1 f.number = cc in
+    let x : refusal LongText (s + text_ceiling) ≡ refusal f.reason f.place = rw b at r in
+    let reason : LongText ≡ f.reason = cc in
     let place : s + text_ceiling ≡ f.place = cc in
-    rw (number, place) at (too_long over))
+    subst (λ (x : Reason). Inside s e (fault x f.place)) reason (rw place at (too_long over)))
     (either (leb (length (take e file) - s) text_ceiling))
   where
     short : length (take e file) ≤ e
@@ -119,5 +121,5 @@ guard-place file s e u f h r =
         le : e < length file → e ≤ length file
         le a = omega arith
 
-    too_long : text_ceiling < length (take e file) - s → Inside s e (fault 1 (s + text_ceiling))
+    too_long : text_ceiling < length (take e file) - s → Inside s e (fault LongText (s + text_ceiling))
     too_long over = (omega arith, omega (arith, short), omega arith)

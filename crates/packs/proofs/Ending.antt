@@ -18,6 +18,7 @@ use Rattle.notation.specs.Triplets.{literal, triplets, numbers}
 use Rattle.notation.specs.clauses.Codes.{flags_in, InText}
 use Rattle.notation.specs.declared.codes.Code.{Code}
 use Rattle.notation.specs.Refusals.{fault}
+use Rattle.notation.specs.declared.refusal.Reason.TheVariants.{ManyConnectives, WrongField}
 use Rattle.notation.specs.declared.refusal.Refusal.{Refusal}
 use Rattle.notation.proofs.Coding.{flags-length}
 use Rattle.reading.proofs.Parsing.{none_seen}
@@ -70,7 +71,7 @@ module _ (file : List ℕ) (codes : List Code) (pool : List ℕ) (spans : List G
   says : FieldSays file p.at f
   says = rw q (here file p.at g.taken.inside)
 
-  pub cut-says : f ≡ field.Cut → fields_say file ≡ refusal (fault 13 p.at)
+  pub cut-says : f ≡ field.Cut → fields_say file ≡ refusal (fault WrongField p.at)
   cut-says h = let x : FieldSays file p.at field.Cut = rw h at says in goes-short file p.due g.line p.at _ g.taken.goes x
 
   pub whole_here : (tag s e : ℕ) → f ≡ field.Whole tag s e → FieldHere file p.at tag s e
@@ -91,7 +92,7 @@ module _ (file : List ℕ) (codes : List Code) (pool : List ℕ) (spans : List G
   fit : all_fit (questions_of w.line.rule w.line.variants) ≡ leb (p.total + p.variants) connective_ceiling
   fit = questions-fit w.line.rule w.line.variants last.1 ∙ rw (w.taken.total, w.taken.variants)
 
-  pub over-says : connective_ceiling < p.total + p.variants → (r : Pack) → r ≡ Err (fault 8 p.at)
+  pub over-says : connective_ceiling < p.total + p.variants → (r : Pack) → r ≡ Err (fault ManyConnectives p.at)
       → PackSays file (pack_read file) r codes pool spans
   unfolding pack_read fitting
   over-says h r q = rw (w.means, fit, lt-leb (p.total + p.variants) connective_ceiling h, sym w.ends) q

@@ -3,13 +3,14 @@ use Prim.Native.Nat.{ℕ, ◌+◌}
 use mathlib.Core.Path.{◌≡◌, sym, ap, ◌∙◌}
 use mathlib.Core.List.{List}
 use Rattle.notation.specs.Refusals.{fault}
+use Rattle.notation.specs.declared.refusal.Reason.TheVariants.{WrongField}
 use Rattle.notation.specs.declared.refusal.Refusal.{Refusal}
 use Rattle.fields.specs.Fields.{header, end, short, field, pieces_at}
 use Rattle.packs.specs.Pack.{Line, PackReading, refusal, role_of, Next, refused, on, step_as, end_as, pack_from}
 use Rattle.packs.specs.declared.due.Due.{Due}
 
 module _ (file : List ℕ) (d : Due) (l : Line) (at : ℕ) (R : PackReading) (goes : pack_from file d l (pieces_at file at) ≡ R) where
-  pub goes-short : pieces_at file at ≡ short at → R ≡ refusal (fault 13 at)
+  pub goes-short : pieces_at file at ≡ short at → R ≡ refusal (fault WrongField at)
   unfolding pack_from
   goes-short h = sym goes ∙ ap (pack_from file d l) h
 

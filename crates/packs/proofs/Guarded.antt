@@ -32,8 +32,8 @@ module _ (file : List ℕ) (e row total : ℕ) (r : Parsed) (pool : List ℕ) (s
   abbrev pub Answers : Reading → Type 0
   Answers R = GuardTakenSays R file e row total r pool spans codes' pool' spans'
 
-  pub says-refused : (R : Reading) → Answers R → (f : Refusal) → r ≡ Err f → R ≡ read.refusal f.number f.place
-  says-refused (read.refusal k d) h f q = let same : fault k d ≡ f = cc in ap (λ (y : Refusal). read.refusal y.number y.place) same
+  pub says-refused : (R : Reading) → Answers R → (f : Refusal) → r ≡ Err f → R ≡ read.refusal f.reason f.place
+  says-refused (read.refusal k d) h f q = let same : fault k d ≡ f = cc in ap (λ (y : Refusal). read.refusal y.reason y.place) same
   says-refused (read.guard g u) h f q = let a = h.found.answer in let z : ◌≡◌ {A = ℕ} 0 1 = cc in absurd (omega arith)
 
   -- the guard that these numbers are of

@@ -9,6 +9,7 @@ use lib.Dec.{eqb}
 use borrow.Author.Tests.{lt-ltb, le-ltb, le-leb, lt-leb}
 use Rattle.ground.specs.Choice.{choose}
 use Rattle.notation.specs.Refusals.{fault}
+use Rattle.notation.specs.declared.refusal.Reason.TheVariants.{WrongField, WrongVariants, WrongId}
 use Rattle.notation.specs.declared.refusal.Refusal.{Refusal}
 use Rattle.notation.specs.Walk.{Flag}
 use Rattle.notation.specs.Guard.{Guard}
@@ -41,27 +42,27 @@ module _ (file : List ℕ) (l : Line) (p s e : ℕ) where
   unfolding step_as
   text-step = refl
 
-  pub wrong-step : step_as is.Wrong file l p s e ≡ refused (fault 13 p)
+  pub wrong-step : step_as is.Wrong file l p s e ≡ refused (fault WrongField p)
   unfolding step_as
   wrong-step = refl
 
-  pub empty-step : e - s ≡ 0 → step_as is.Id file l p s e ≡ refused (fault 15 p)
+  pub empty-step : e - s ≡ 0 → step_as is.Id file l p s e ≡ refused (fault WrongId p)
   unfolding step_as
   empty-step h = rw (le-ltb 0 (e - s) (omega arith))
 
-  pub long-step : id_ceiling < e - s → step_as is.Id file l p s e ≡ refused (fault 15 p)
+  pub long-step : id_ceiling < e - s → step_as is.Id file l p s e ≡ refused (fault WrongId p)
   unfolding step_as
   long-step h = rw (lt-ltb 0 (e - s) (omega arith), lt-leb (e - s) id_ceiling h)
 
-  pub full-step : variant_ceiling ≤ length l.variants → step_as is.Variant file l p s e ≡ refused (fault 14 p)
+  pub full-step : variant_ceiling ≤ length l.variants → step_as is.Variant file l p s e ≡ refused (fault WrongVariants p)
   unfolding step_as
   full-step h = rw (le-ltb (length l.variants) variant_ceiling h)
 
-  pub rule-refused : (f : Refusal) → guard_in file l s e ≡ read.refusal f.number f.place → step_as is.Rule file l p s e ≡ refused f
+  pub rule-refused : (f : Refusal) → guard_in file l s e ≡ read.refusal f.reason f.place → step_as is.Rule file l p s e ≡ refused f
   unfolding step_as with_guard
   rule-refused f h = rw h
 
-  pub variant-refused : (f : Refusal) → length l.variants < variant_ceiling → guard_in file l s e ≡ read.refusal f.number f.place
+  pub variant-refused : (f : Refusal) → length l.variants < variant_ceiling → guard_in file l s e ≡ read.refusal f.reason f.place
       → step_as is.Variant file l p s e ≡ refused f
   unfolding step_as with_guard
   variant-refused f b h = rw (lt-ltb (length l.variants) variant_ceiling b, h)

@@ -13,6 +13,7 @@ use Rattle.notation.specs.clauses.Codes.{flags_in}
 use Rattle.notation.specs.declared.codes.Code.{Code}
 use Rattle.notation.specs.Reading.{reading_from}
 use Rattle.notation.specs.Refusals.{fault}
+use Rattle.notation.specs.declared.refusal.Reason.TheVariants.{WrongField, WrongVariants, WrongId}
 use Rattle.notation.specs.declared.refusal.Refusal.{Refusal}
 use Rattle.reading.specs.declared.parse.Guard as numbers
 use Rattle.reading.specs.Service.{Parsed}
@@ -69,15 +70,15 @@ on-as : (file : List ℕ) (p : Progress) (e : ℕ) (d : Due) (v n n' c c' : ℕ)
 on-as file p e d v n n' c c' codes pool spans x y h = rw (x, y) h
 
 module _ (file : List ℕ) (codes : List Code) (pool : List ℕ) (spans : List GuardSpan) (p : Progress) (s e : ℕ) where
-  pub wrong-says : StepAsks file codes pool spans p is.Wrong s e → fields_say file ≡ refusal (fault 13 p.at)
-  wrong-says a = refuses file codes pool spans p is.Wrong s e a (fault 13 p.at) (wrong-step file a.going.line p.at s e)
+  pub wrong-says : StepAsks file codes pool spans p is.Wrong s e → fields_say file ≡ refusal (fault WrongField p.at)
+  wrong-says a = refuses file codes pool spans p is.Wrong s e a (fault WrongField p.at) (wrong-step file a.going.line p.at s e)
 
   module _ (a : StepAsks file codes pool spans p is.Id s e) where
-    pub empty-says : e - s ≡ 0 → fields_say file ≡ refusal (fault 15 p.at)
-    empty-says h = refuses file codes pool spans p is.Id s e a (fault 15 p.at) (empty-step file a.going.line p.at s e h)
+    pub empty-says : e - s ≡ 0 → fields_say file ≡ refusal (fault WrongId p.at)
+    empty-says h = refuses file codes pool spans p is.Id s e a (fault WrongId p.at) (empty-step file a.going.line p.at s e h)
 
-    pub long-says : id_ceiling < e - s → fields_say file ≡ refusal (fault 15 p.at)
-    long-says h = refuses file codes pool spans p is.Id s e a (fault 15 p.at) (long-step file a.going.line p.at s e h)
+    pub long-says : id_ceiling < e - s → fields_say file ≡ refusal (fault WrongId p.at)
+    long-says h = refuses file codes pool spans p is.Id s e a (fault WrongId p.at) (long-step file a.going.line p.at s e h)
 
     pub id-says : (e - s ≡ 0 → ⊥) → e - s ≤ id_ceiling
         → StepSays file p (Ok (Some (further_to e due.RuleOrVariant p.flags p.variants p.total))) codes pool spans
@@ -160,7 +161,7 @@ module _ (file : List ℕ) (codes : List Code) (pool : List ℕ) (spans : List G
             onward file codes pool spans p is.Variant s e a,
           )
 
-  pub full-says : StepAsks file codes pool spans p is.Variant s e → variant_ceiling ≤ p.variants → fields_say file ≡ refusal (fault 14 p.at)
+  pub full-says : StepAsks file codes pool spans p is.Variant s e → variant_ceiling ≤ p.variants → fields_say file ≡ refusal (fault WrongVariants p.at)
   full-says a b =
-      refuses file codes pool spans p is.Variant s e a (fault 14 p.at)
+      refuses file codes pool spans p is.Variant s e a (fault WrongVariants p.at)
       (full-step file a.going.line p.at s e (omega (arith, a.going.taken.variants)))

@@ -6,6 +6,7 @@ use Rattle.notation.specs.Walk.{Flag}
 use Rattle.notation.specs.Guard.{Guard, truth}
 use Rattle.notation.specs.Reading as read
 use Rattle.notation.specs.Reading.{Reading, reading_from}
+use Rattle.notation.specs.declared.refusal.Reason.TheVariants.{ManyConnectives, WrongField, WrongVariants, WrongId}
 use Rattle.notation.specs.declared.refusal.Refusal.{Refusal}
 use Rattle.fields.specs.Fields.{header, Pieces, end, short, field, pieces_at}
 use Rattle.building.specs.Span.{Span}
@@ -83,33 +84,33 @@ texted l s e = record { rule = l.rule; variants = l.variants; texts = l.texts ++
 
 -- a field at p whose body goes from s to e: a wrong one is refused 13, a 17th variant 14, an id of no byte or of over 16 is refused 15
 unfoldable pub step_as : Role → List ℕ → Line → ℕ → ℕ → ℕ → Next
-step_as is.Wrong file l p s e = refused (fault 13 p)
+step_as is.Wrong file l p s e = refused (fault WrongField p)
 step_as is.Id file l p s e =
-    choose (ltb 0 (e - s)) (choose (leb (e - s) id_ceiling) (on due.RuleOrVariant l) (refused (fault 15 p))) (refused (fault 15 p))
+    choose (ltb 0 (e - s)) (choose (leb (e - s) id_ceiling) (on due.RuleOrVariant l) (refused (fault WrongId p))) (refused (fault WrongId p))
 step_as is.Rule file l p s e = with_guard (guard_in file l s e) (λ g u. on due.Variant (ruled l g u))
 step_as is.Variant file l p s e =
-    choose (ltb (length l.variants) variant_ceiling) (with_guard (guard_in file l s e) (λ g u. on due.Text (varied l g u))) (refused (fault 14 p))
+    choose (ltb (length l.variants) variant_ceiling) (with_guard (guard_in file l s e) (λ g u. on due.Text (varied l g u))) (refused (fault WrongVariants p))
 step_as is.Text file l p s e = on due.VariantOrEnd (texted l s e)
 
 -- the end of the pack at p: 13 where an id or a text is missing, 14 where there is no variant
 unfoldable pub end_as : Due → Line → ℕ → PackReading
-end_as due.Id l p = refusal (fault 13 p)
-end_as due.RuleOrVariant l p = refusal (fault 14 p)
-end_as due.Variant l p = refusal (fault 14 p)
-end_as due.Text l p = refusal (fault 13 p)
+end_as due.Id l p = refusal (fault WrongField p)
+end_as due.RuleOrVariant l p = refusal (fault WrongVariants p)
+end_as due.Variant l p = refusal (fault WrongVariants p)
+end_as due.Text l p = refusal (fault WrongField p)
 end_as due.VariantOrEnd l p = line l
 
 -- the fields from the left: the first that is at fault decides, and a field cut short is refused 13
 unfoldable pub pack_from : List ℕ → Due → Line → Pieces → PackReading
 pack_from file d l (end p) = end_as d l p
-pack_from file d l (short p) = refusal (fault 13 p)
+pack_from file d l (short p) = refusal (fault WrongField p)
 pack_from file d l (field p tag e rest) =
     elim (step_as (role_of d tag) file l p (p + header) e) [ refused f ↦ refusal f | on d' l' ↦ pack_from file d' l' rest ]
 
 -- last, the ceiling holds for each question put: else 8 at the pack's length
 unfoldable pub fitting : PackReading → ℕ → PackReading
 fitting (refusal f) n = refusal f
-fitting (line l) n = choose (all_fit (questions_of l.rule l.variants)) (line l) (refusal (fault 8 n))
+fitting (line l) n = choose (all_fit (questions_of l.rule l.variants)) (line l) (refusal (fault ManyConnectives n))
 
 -- what all fields of a pack say
 abbrev pub fields_say : List ℕ → PackReading

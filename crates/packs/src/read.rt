@@ -10,7 +10,7 @@ use crate::steps::{Progress, step_on};
 use building::spans::GuardSpan;
 use notation::ceilings::{CONNECTIVES, FLAGS, TRIPLETS_ROOM};
 use notation::codes::Code;
-use notation::refusal::{Refusal, fault};
+use notation::refusal::{Reason, Refusal, fault};
 use questions::GUARDS;
 
 // How many flags and variants a line has.
@@ -32,7 +32,7 @@ fn closed(
     ensures { PackSays file.now (pack_read file.now) result codes.now pool.now spans.now }
 {
     if CONNECTIVES < p.total + p.variants {
-        return Err(fault(8, p.at));
+        return Err(fault(Reason::ManyConnectives, p.at));
     }
     Ok(Line {
         flags: p.flags,

@@ -12,7 +12,7 @@ use building::spans::GuardSpan;
 use fields::{Field, field_at};
 use notation::ceilings::{FLAGS, TRIPLETS_ROOM};
 use notation::codes::Code;
-use notation::refusal::{Refusal, fault};
+use notation::refusal::{Reason, Refusal, fault};
 use questions::{GUARDS, VARIANTS};
 use reading::parse::{Guard, parse_from};
 
@@ -70,10 +70,10 @@ fn id_step(
 {
     let len = end - start;
     if len == 0 {
-        return Err(fault(15, p.at));
+        return Err(fault(Reason::WrongId, p.at));
     }
     if ID < len {
-        return Err(fault(15, p.at));
+        return Err(fault(Reason::WrongId, p.at));
     }
     Ok(Some(Progress {
         at: end,
@@ -119,7 +119,7 @@ fn variant_step(
     ensures { StepSays file.now p result codes.new pool.new spans.new }
 {
     if VARIANTS <= p.variants {
-        return Err(fault(14, p.at));
+        return Err(fault(Reason::WrongVariants, p.at));
     }
     let row = p.variants + 1;
     let guard = read_guard(file, start, end, p.flags, p.total, row, codes, pool, spans)?;
@@ -158,10 +158,10 @@ fn ended(p: Progress) -> Result<Option<Progress>, Refusal>
     ensures { result ≡ end_step p.due p.at }
 {
     match p.due {
-        Due::Id => Err(fault(13, p.at)),
-        Due::RuleOrVariant => Err(fault(14, p.at)),
-        Due::Variant => Err(fault(14, p.at)),
-        Due::Text => Err(fault(13, p.at)),
+        Due::Id => Err(fault(Reason::WrongField, p.at)),
+        Due::RuleOrVariant => Err(fault(Reason::WrongVariants, p.at)),
+        Due::Variant => Err(fault(Reason::WrongVariants, p.at)),
+        Due::Text => Err(fault(Reason::WrongField, p.at)),
         Due::VariantOrEnd => Ok(None),
     }
 }
@@ -182,7 +182,7 @@ fn field_step(
     ensures { StepSays file.now p result codes.new pool.new spans.new }
 {
     match role_of(p.due, tag) {
-        Role::Wrong => Err(fault(13, p.at)),
+        Role::Wrong => Err(fault(Reason::WrongField, p.at)),
         Role::Id => id_step(file, p, start, end, codes, pool, spans),
         Role::Rule => rule_step(file, p, start, end, codes, pool, spans),
         Role::Variant => variant_step(file, p, start, end, codes, pool, spans),
@@ -205,7 +205,7 @@ pub fn step_on(
         Field::Whole { tag, start, end } => field_step(
             file, p, tag, start, end, codes, pool, spans,
         ),
-        Field::Cut => Err(fault(13, p.at)),
+        Field::Cut => Err(fault(Reason::WrongField, p.at)),
         Field::End => ended(p),
     }
 }

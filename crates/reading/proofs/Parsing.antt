@@ -24,6 +24,8 @@ use Rattle.notation.specs.clauses.Place.{before, CutSays}
 use Rattle.notation.specs.declared.place.Kind.{Kind}
 use Rattle.notation.specs.declared.place.Kind.TheVariants as kind
 use Rattle.notation.specs.declared.place.Place.{Place}
+use Rattle.notation.specs.declared.refusal.Reason.{Reason}
+use Rattle.notation.specs.declared.refusal.Reason.TheVariants.{LongText, OutOfPlace}
 use Rattle.notation.specs.declared.refusal.Refused.{Refused}
 use Rattle.operands.specs.clauses.Steps.{joins, place}
 use Rattle.operands.specs.declared.waiting.Stack.{Stack}
@@ -40,12 +42,12 @@ unfolding reading reading_from tree tree_from tokens tokens_at
 from_start text = rw (sub-zero)
 
 -- a text over the ceiling
-pub too_long : (text : List ℕ) (from : ℕ) (u : List Flag) → text_ceiling < length text - from → reading_from text from u ≡ refusal 1
+pub too_long : (text : List ℕ) (from : ℕ) (u : List Flag) → text_ceiling < length text - from → reading_from text from u ≡ refusal LongText
     (from + text_ceiling)
 unfolding reading_from
 too_long text from u h = rw (lt-leb (length text - from) text_ceiling h)
 
-pub whole-too-long : (text : List ℕ) → text_ceiling < length text → reading text ≡ refusal 1 text_ceiling
+pub whole-too-long : (text : List ℕ) → text_ceiling < length text → reading text ≡ refusal LongText text_ceiling
 whole-too-long text h = sym (from_start text) ∙ too_long text 0 [] (rw sub-zero h)
 
 ends-accepted : (k : Kind) (text : List ℕ) (p e : ℕ) (u : List Flag) (m : ℕ) → ends k ≡ true → walk after 0 u m (ahead_as k text p e) ≡ accepted
@@ -60,7 +62,7 @@ ends-accepted kind.Opening text p e u m h = absurd (true≢false (sym h))
 ends-accepted kind.Closing text p e u m h = absurd (true≢false (sym h))
 
 not-ended : (k : Kind) (text : List ℕ) (p e : ℕ) (u : List Flag) (m : ℕ) → ends k ≡ false → joins k ≡ false → walk after 0 u m
-    (ahead_as k text p e) ≡ refused 5 p
+    (ahead_as k text p e) ≡ refused OutOfPlace p
 unfolding walk ahead_as
 not-ended kind.End text p e u m h i = absurd (true≢false h)
 not-ended kind.Code text p e u m h i = refl
@@ -88,7 +90,7 @@ parsed-whole text r codes codes' out' h = subst (λ (x : Reading). ParseSays tex
 
 module _ (text : List ℕ) (from : ℕ) (u₀ : List Flag) (h : length text - from ≤ text_ceiling) where
   -- where the walk refuses, so does reading
-  walk-refuses : (k p : ℕ) → walk operand 0 u₀ 0 (tokens_at text from) ≡ refused k p → reading_from text from u₀ ≡ refusal k p
+  walk-refuses : (k : Reason) (p : ℕ) → walk operand 0 u₀ 0 (tokens_at text from) ≡ refused k p → reading_from text from u₀ ≡ refusal k p
   unfolding reading_from judged
   walk-refuses k p e = rw (le-leb (length text - from) text_ceiling h, e)
 
@@ -98,7 +100,7 @@ module _ (text : List ℕ) (from : ℕ) (u₀ : List Flag) (h : length text - fr
   unfolding reading_from judged
   walk-accepts u m e = rw (le-leb (length text - from) text_ceiling h, e)
 
-  says-refusal : (k p : ℕ) → walk operand 0 u₀ 0 (tokens_at text from) ≡ refused k p → (r : Parsed) → r ≡ refused_with k p
+  says-refusal : (k : Reason) (p : ℕ) → walk operand 0 u₀ 0 (tokens_at text from) ≡ refused k p → (r : Parsed) → r ≡ refused_with k p
       → (codes : List Code) (out : List ℕ) →
       ParseSays text (reading_from text from u₀) r codes out
   says-refusal k p e r f codes out = subst (λ (x : Reading). ParseSays text x r codes out) (sym (walk-refuses k p e)) f
@@ -113,7 +115,7 @@ module _ {text : List ℕ} {from n : ℕ} {p p₁ : Place} {s : Result Unit Refu
     pub faulty-first : {x : Refused} → s ≡ Err x → {r : Parsed} → r ≡ Err p₁.refusal → (codes' : List Code) (out' : List ℕ) →
         ParseSays text (reading_from text from (flags_in text codes n)) r codes' out'
     faulty-first e {r} q codes' out' =
-        says-refusal text from (flags_in text codes n) h p₁.refusal.number p₁.refusal.place
+        says-refusal text from (flags_in text codes n) h p₁.refusal.reason p₁.refusal.place
         (c.refused _ e operand 0 (flags_in text codes n) 0) r q codes' out'
 
     module _ (e : s ≡ Ok tt) {out : List ℕ} {wait : Stack} {a : Result ℕ Refused} {p₂ : Place} {codes₂ : List Code} {out₂ : List ℕ}
@@ -135,7 +137,7 @@ module _ {text : List ℕ} {from n : ℕ} {p p₁ : Place} {s : Result Unit Refu
       -- a refusal by a level
       pub refused-first : {x : Refused} → a ≡ Err x → {r : Parsed} → r ≡ Err p₂.refusal → ParseSays text
           (reading_from text from (flags_in text codes n)) r codes₂ out₂
-      refused-first f {r} q = says-refusal text from (flags_in text codes n) h p₂.refusal.number p₂.refusal.place (from_first ∙ v.refused _ f) r q codes₂ out₂
+      refused-first f {r} q = says-refusal text from (flags_in text codes n) h p₂.refusal.reason p₂.refusal.place (from_first ∙ v.refused _ f) r q codes₂ out₂
 
       module _ {l : ℕ} (found : a ≡ Ok l) where
         f : FoundPart (plain (left_level words.same (below_of words.same (operands_at 0)))) 0 4 text (place p₁) codes out (part l p₂) codes₂ out₂
@@ -153,7 +155,7 @@ module _ {text : List ℕ} {from n : ℕ} {p p₁ : Place} {s : Result Unit Refu
 
         -- the text ends after the guard, or does not
         decided : (x : Bool) → ends p₂.token.kind ≡ x → (r : Parsed) →
-            r ≡ choose x (guard_with p₂.flags p₂.count l) (refused_with 5 p₂.token.start) → ParseSays text
+            r ≡ choose x (guard_with p₂.flags p₂.count l) (refused_with OutOfPlace p₂.token.start) → ParseSays text
             (reading_from text from (flags_in text codes n)) r codes₂ out₂
         unfolding u f
         decided true x r q =
@@ -180,7 +182,7 @@ module _ {text : List ℕ} {from n : ℕ} {p p₁ : Place} {s : Result Unit Refu
               room = v.rooms.triplets;
             }
         decided false x r q =
-            says-refusal text from (flags_in text codes n) h 5 p₂.token.start
+            says-refusal text from (flags_in text codes n) h OutOfPlace p₂.token.start
             (from_first ∙ f.reads.walked
             ∙ not-ended p₂.token.kind text p₂.token.start p₂.token.next u p₂.signs x
             (stops-joins p₂.token.kind text p₂.token.start p₂.token.next f.reads.stops)) r q codes₂ out₂

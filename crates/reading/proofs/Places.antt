@@ -12,6 +12,9 @@ use Rattle.notation.specs.Tokens.{Code, Token, Tokens, stray, long, code, hash, 
 use Rattle.notation.specs.Tokens.{code_run, coded, hashed, marked, token_of, further, tokens_from, tokens}
 use Rattle.ground.specs.Choice.{choose}
 use Rattle.notation.specs.Walk.{Flag, known, seen, Wanted, operand, after, Outcome, refused, accepted, within, walk}
+use Rattle.notation.specs.Refusals.{number_of}
+use Rattle.notation.specs.declared.refusal.Reason.{Reason}
+use Rattle.notation.specs.declared.refusal.Reason.TheVariants.{ManyBrackets, ManyFlags, ManyConnectives}
 use Rattle.reading.specs.clauses.Parsing.{last_refusal}
 
 -- what holds of two things holds of the one that is chosen
@@ -101,13 +104,13 @@ FlagsFit (f ∷ u) = ((f.place ≤ text_ceiling) × (length f.name ≤ code_ceil
 
 -- a refusal has a number of the table and a place within the longest text
 abbrev pub OutcomeFits : Outcome → Type 0
-OutcomeFits (refused k p) = (k ≤ last_refusal) × (p ≤ text_ceiling)
+OutcomeFits (refused k p) = (number_of k ≤ last_refusal) × (p ≤ text_ceiling)
 OutcomeFits (accepted u m) = FlagsFit u
 
-within-fits : (k ceiling number p : ℕ) (rest : Outcome) → number ≤ last_refusal → p ≤ text_ceiling → OutcomeFits rest → OutcomeFits
-    (within k ceiling number p rest)
+within-fits : (k ceiling : ℕ) (reason : Reason) (p : ℕ) (rest : Outcome) → number_of reason ≤ last_refusal → p ≤ text_ceiling → OutcomeFits rest → OutcomeFits
+    (within k ceiling reason p rest)
 unfolding within
-within-fits k ceiling number p rest n h f = choose-has (λ (o : Outcome). OutcomeFits o) (leb k ceiling) rest (refused number p) (λ e. f) (λ e. (n, h))
+within-fits k ceiling reason p rest n h f = choose-has (λ (o : Outcome). OutcomeFits o) (leb k ceiling) rest (refused reason p) (λ e. f) (λ e. (n, h))
 
 append-fits : (u : List Flag) (f : Flag) → FlagsFit u → f.place ≤ text_ceiling → length f.name ≤ code_ceiling → FlagsFit (u ++ (f ∷ []))
 append-fits [] f x p c = ((p, c), tt)
@@ -125,13 +128,13 @@ walk-fits operand d u m (end p) t f = (omega arith, t)
 walk-fits operand d u m (at p stray ts) t f = (omega arith, t.0)
 walk-fits operand d u m (at p long ts) t f = (omega arith, t.0)
 walk-fits operand d u m (at p (code c) ts) t f =
-    within-fits (length (seen p c u)) flag_ceiling 7 p (walk after d (seen p c u) m ts) (omega arith) t.0
+    within-fits (length (seen p c u)) flag_ceiling ManyFlags p (walk after d (seen p c u) m ts) (omega arith) t.0
     (walk-fits after d (seen p c u) m ts t.2 (seen-fits p c u t.0 t.1 f))
 walk-fits operand d u m (at p (hash b) ts) t f = walk-fits after d u m ts t.2 f
 walk-fits operand d u m (at p bang ts) t f = walk-fits operand d u m ts t.2 f
 walk-fits operand d u m (at p (sign s) ts) t f = (omega arith, t.0)
 walk-fits operand d u m (at p opening ts) t f =
-    within-fits (suc d) bracket_ceiling 6 p (walk operand (suc d) u m ts) (omega arith) t.0 (walk-fits operand (suc d) u m ts t.2 f)
+    within-fits (suc d) bracket_ceiling ManyBrackets p (walk operand (suc d) u m ts) (omega arith) t.0 (walk-fits operand (suc d) u m ts t.2 f)
 walk-fits operand d u m (at p closing ts) t f = (omega arith, t.0)
 walk-fits after zero u m (end p) t f = f
 walk-fits after (suc d) u m (end p) t f = (omega arith, t)
@@ -141,7 +144,7 @@ walk-fits after d u m (at p (code c) ts) t f = (omega arith, t.0)
 walk-fits after d u m (at p (hash b) ts) t f = (omega arith, t.0)
 walk-fits after d u m (at p bang ts) t f = (omega arith, t.0)
 walk-fits after d u m (at p (sign s) ts) t f =
-    within-fits (suc m) connective_ceiling 8 p (walk operand d u (suc m) ts) (omega arith) t.0 (walk-fits operand d u (suc m) ts t.2 f)
+    within-fits (suc m) connective_ceiling ManyConnectives p (walk operand d u (suc m) ts) (omega arith) t.0 (walk-fits operand d u (suc m) ts t.2 f)
 walk-fits after d u m (at p opening ts) t f = (omega arith, t.0)
 walk-fits after zero u m (at p closing ts) t f = (omega arith, t.0)
 walk-fits after (suc d) u m (at p closing ts) t f = walk-fits after d u m ts t.2 f

@@ -21,6 +21,7 @@ use Rattle.notation.specs.declared.codes.Code.{Code}
 use Rattle.std.specs.Prelude.{Ok, Err}
 use Rattle.reading.specs.Service.{Parsed, Named, part_with, refused_with, guard_with, read_answer, room_after, ReadSays, unnamed, name_in, name_answer, part_of}
 use Rattle.reading.specs.clauses.Parsing.{GuardRead, ParseSays, Spans, named_in}
+use Rattle.notation.specs.declared.refusal.Reason.TheVariants.{SmallRoom, NoFlag}
 use Rattle.notation.specs.declared.refusal.Refusal.{Refusal}
 use Rattle.reading.specs.declared.parse.Guard as counted
 use Rattle.reading.specs.declared.name.Stretch.{Stretch}
@@ -49,10 +50,10 @@ guard-found text (guard g u) r codes out s x e =
 
 -- where parse refuses, so does the text
 pub refusal-found : (text : List ℕ) (R : Reading) (r : Parsed) (codes : List Code) (out : List ℕ) → ParseSays text R r codes out → (f : Refusal) → r
-    ≡ Err f → R ≡ refusal f.number f.place
+    ≡ Err f → R ≡ refusal f.reason f.place
 refusal-found text (refusal k p) r codes out s f e =
     let a : r ≡ refused_with k p = s in
-    let b : f ≡ record { number = k; place = p } = cc in
+    let b : f ≡ record { reason = k; place = p } = cc in
     rw b
 refusal-found text (guard g u) r codes out s f e =
     let a : r ≡ guard_with (length u) (connectives g) (literal 0 g) = s.answer in
@@ -69,7 +70,7 @@ copy_more from to i f t =
     ∙ ap (λ (l : List ℕ). l ++ drop (suc i) to) (sym (take-suc from i 0 f))
     ∙ rw add-one
 
-pub read-refused : (text room : List ℕ) (f : Refusal) → reading text ≡ refusal f.number f.place → ReadSays text room (Err f) room
+pub read-refused : (text room : List ℕ) (f : Refusal) → reading text ≡ refusal f.reason f.place → ReadSays text room (Err f) room
 unfolding read_answer room_after
 read-refused text room f h = record { answer = rw h; left = rw h }
 
@@ -81,7 +82,7 @@ module _ (text room : List ℕ) (x : counted.Guard) (codes : List Code) (out : L
   pub length-few : x.count ≤ connective_ceiling
   length-few = rw count-is f.read.short
 
-  pub read_small : length room < 3 * x.count → ReadSays text room (refused_with 10 0) room
+  pub read_small : length room < 3 * x.count → ReadSays text room (refused_with SmallRoom 0) room
   unfolding read_answer room_after
   read_small h =
       let l : leb (3 * connectives f.tree) (length room) ≡ false = lt-leb (3 * connectives f.tree) (length room) (rw count-is at h) in
@@ -104,12 +105,12 @@ spans text x codes out f =
     rw k (record { room = f.read.in_text.room; starts = f.read.in_text.starts })
 
 -- no flag has the number 0, or one over their number
-name-zero : (u : List Flag) → name_in u 0 ≡ unnamed 11 0
+name-zero : (u : List Flag) → name_in u 0 ≡ unnamed NoFlag 0
 unfolding name_in
 name-zero [] = refl
 name-zero (f ∷ u) = refl
 
-name-over : (u : List Flag) (i : ℕ) → length u < i → name_in u i ≡ unnamed 11 0
+name-over : (u : List Flag) (i : ℕ) → length u < i → name_in u i ≡ unnamed NoFlag 0
 unfolding name_in
 name-over [] i h = refl
 name-over (f ∷ u) zero h = refl
@@ -135,7 +136,7 @@ name-same text codes k (suc j) t =
     here : Named
     here = part_with (start_of codes j) (end_of codes j - start_of codes j)
 
-    by-test : (b : Bool) → leb (suc j) k ≡ b → choose b here (unnamed 11 0) ≡ name_in (flags_in text codes k) (suc j)
+    by-test : (b : Bool) → leb (suc j) k ≡ b → choose b here (unnamed NoFlag 0) ≡ name_in (flags_in text codes k) (suc j)
     by-test true e =
         let h : j < k = leb-true (suc j) k e in
         let r = flags-split text codes j k h in
@@ -147,7 +148,7 @@ name-same text codes k (suc j) t =
         ∙ ap (part_with (start_of codes j)) l)
     by-test false e = sym (name-over (flags_in text codes k) (suc j) (rw (flags-length text codes k) (leb-false (suc j) k e)))
 
-pub name-refused : (text : List ℕ) (i : ℕ) (f : Refusal) → reading text ≡ refusal f.number f.place → Err f ≡ name_answer
+pub name-refused : (text : List ℕ) (i : ℕ) (f : Refusal) → reading text ≡ refusal f.reason f.place → Err f ≡ name_answer
     (reading text) i
 unfolding name_answer
 name-refused text i f e = rw e

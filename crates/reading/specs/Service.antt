@@ -5,6 +5,8 @@ use Rattle.notation.specs.Walk.{Flag}
 use Rattle.notation.specs.Guard.{connectives}
 use Rattle.notation.specs.Triplets.{literal, triplets, numbers}
 use Rattle.notation.specs.Reading.{Reading, refusal, guard, reading}
+use Rattle.notation.specs.declared.refusal.Reason.{Reason}
+use Rattle.notation.specs.declared.refusal.Reason.TheVariants.{SmallRoom, NoFlag}
 use Rattle.notation.specs.declared.refusal.Refusal.{Refusal}
 use Rattle.reading.specs.declared.parse.Guard as counted
 use Rattle.reading.specs.declared.name.Stretch.{Stretch}
@@ -17,9 +19,9 @@ Parsed = Result counted.Guard Refusal
 abbrev pub Named : Type 0
 Named = Result Stretch Refusal
 
--- the refusal with this number at this place
-abbrev pub refused_with : ℕ → ℕ → Parsed
-refused_with k p = Err (record { number = k; place = p })
+-- the refusal for this reason at this place
+abbrev pub refused_with : Reason → ℕ → Parsed
+refused_with k p = Err (record { reason = k; place = p })
 
 -- a guard with n flags, c triplets and this root literal
 abbrev pub guard_with : ℕ → ℕ → ℕ → Parsed
@@ -28,7 +30,7 @@ guard_with n c r = Ok (record { flags = n; count = c; root = r })
 -- read needs three numbers a triplet: it answers the guard, or refusal 10 where the room is too small
 unfoldable pub read_answer : Reading → ℕ → Parsed
 read_answer (refusal k p) room = refused_with k p
-read_answer (guard g u) room = choose (leb (3 * connectives g) room) (guard_with (length u) (connectives g) (literal 0 g)) (refused_with 10 0)
+read_answer (guard g u) room = choose (leb (3 * connectives g) room) (guard_with (length u) (connectives g) (literal 0 g)) (refused_with SmallRoom 0)
 
 -- the room afterwards: kind, y, z of each triplet from its start, the rest unchanged; a refusal changes nothing
 unfoldable pub room_after : Reading → List ℕ → List ℕ
@@ -40,9 +42,9 @@ pub record ReadSays (text room : List ℕ) (r : Parsed) (after : List ℕ) : Typ
   pub answer : r ≡ read_answer (reading text) (length room)
   pub left : after ≡ room_after (reading text) room
 
--- name's refusal with this number at this place
-abbrev pub unnamed : ℕ → ℕ → Named
-unnamed k p = Err (record { number = k; place = p })
+-- name's refusal for this reason at this place
+abbrev pub unnamed : Reason → ℕ → Named
+unnamed k p = Err (record { reason = k; place = p })
 
 -- the part with this first byte and length
 abbrev pub part_with : ℕ → ℕ → Named
@@ -50,8 +52,8 @@ part_with s l = Ok (record { start = s; len = l })
 
 -- the part of the text where flag i of the list first stands, i counted from 1; a number that no flag has is refused 11
 unfoldable pub name_in : List Flag → ℕ → Named
-name_in [] i = unnamed 11 0
-name_in (f ∷ u) zero = unnamed 11 0
+name_in [] i = unnamed NoFlag 0
+name_in (f ∷ u) zero = unnamed NoFlag 0
 name_in (f ∷ u) (suc zero) = part_with f.place (length f.name)
 name_in (f ∷ u) (suc (suc i)) = name_in u (suc i)
 

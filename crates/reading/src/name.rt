@@ -7,7 +7,7 @@ ghost use Rattle.reading.specs.clauses.Parsing.{Spans, named_in};
 use crate::parse::parse;
 use notation::ceilings::{FLAGS, TRIPLETS_ROOM};
 use notation::codes::Code;
-use notation::refusal::Refusal;
+use notation::refusal::{Reason, Refusal};
 
 // The part of a text that is a flag's code, by its first byte and length.
 #[derive(Clone, Copy)]
@@ -18,7 +18,7 @@ pub struct Stretch {
 
 // No flag has this number.
 const UNNAMED: Refusal = Refusal {
-    number: 11,
+    reason: Reason::NoFlag,
     place: 0,
 };
 

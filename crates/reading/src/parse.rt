@@ -10,7 +10,7 @@ use levels::same;
 use notation::ceilings::{FLAGS, TEXT, TRIPLETS_ROOM};
 use notation::codes::Code;
 use notation::place::{Kind, Place};
-use notation::refusal::Refusal;
+use notation::refusal::{Reason, Refusal};
 use notation::tokens::token_at;
 use operands::waiting::Stack;
 
@@ -33,7 +33,7 @@ fn ended(at: &Place, root: u16) -> Result<Guard, Refusal>
             root,
         }),
         _ => Err(Refusal {
-            number: 5,
+            reason: Reason::OutOfPlace,
             place: at.token.start,
         }),
     }
@@ -57,7 +57,7 @@ pub fn parse_from(
 {
     if TEXT < text.len() - from {
         return Err(Refusal {
-            number: 1,
+            reason: Reason::LongText,
             place: from + TEXT,
         });
     }

@@ -16,6 +16,7 @@ use Rattle.notation.specs.Grammar.{to_the_left, to_the_right, left_level, right_
 use Rattle.notation.specs.Grammar.{same_of, closed, operand_of, in_brackets, tree_of, tree}
 use Rattle.notation.specs.Triplets.{triplet_variable, triplet_of, literal_of, literal, triplets}
 use Rattle.notation.specs.Reading.{guard, judged, reading}
+use Rattle.notation.specs.declared.refusal.Reason.TheVariants.{NoState}
 use Rattle.truth.specs.Connectives.{table}
 use Rattle.truth.specs.Value.{value}
 use Rattle.ground.specs.Bits.{bit}
@@ -99,7 +100,7 @@ module _ (text : List ℕ) (start : ℕ) (g : Guard) (u : List Flag) (says : rea
       }
 
   -- the start is no state
-  start-refused : ltb start (2 ^ length u) ≡ false → (out : List ℕ) → Lists text start out (Err (record { number = 9; place = 0 })) out
+  start-refused : ltb start (2 ^ length u) ≡ false → (out : List ℕ) → Lists text start out (Err (record { reason = NoState; place = 0 })) out
   unfolding listed filled
   start-refused state out = record { answers = rw (says, state); holds = rw (says, state) }
 

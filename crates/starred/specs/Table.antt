@@ -5,6 +5,8 @@ use Rattle.notation.specs.Walk.{Flag}
 use Rattle.notation.specs.Guard.{Guard}
 use Rattle.notation.specs.Triplets.{Triplet, triplet_variable, triplets}
 use Rattle.notation.specs.Reading.{guard, reading}
+use Rattle.notation.specs.declared.refusal.Reason.{Reason}
+use Rattle.notation.specs.declared.refusal.Reason.TheVariants.{NoState}
 use Rattle.list.specs.Listed.{Lists}
 use Rattle.gaps.specs.declared.writing.Found.TheVariants.{Done, More}
 use Rattle.guard_check.specs.Check.{CheckSays}
@@ -30,10 +32,10 @@ abbrev pub ListsFirst : String → ℕ → List ℕ → ℕ → Type 0
 ListsFirst text start l next =
     (out : List ℕ) → length out ≡ length l → Lists (bytes text) start out (Ok (More (length l) next)) l
 
--- from this start on, list refuses with this number at place 0, and leaves every slice alone
-abbrev pub ListRefuses : String → ℕ → ℕ → Type 0
-ListRefuses text start number =
-    (out : List ℕ) → Lists (bytes text) start out (Err (record { number = number; place = 0 })) out
+-- from this start on, list refuses for this reason at place 0, and leaves every slice alone
+abbrev pub ListRefuses : String → ℕ → Reason → Type 0
+ListRefuses text start reason =
+    (out : List ℕ) → Lists (bytes text) start out (Err (record { reason = reason; place = 0 })) out
 
 -- what check answers for the text at the depth
 abbrev pub Checks : String → ℕ → Verdict → Type 0
@@ -48,7 +50,7 @@ pub record DeskTable : Type 0 where
   pub true-lists : ListsAll "#1" 0 []
   pub same-room-1 : ListsFirst "A=B" 0 (1 ∷ []) 2
   pub same-start-2 : ListsAll "A=B" 2 (2 ∷ [])
-  pub same-start-4 : ListRefuses "A=B" 4 9
+  pub same-start-4 : ListRefuses "A=B" 4 NoState
   -- check
   pub both-or-not : Checks "(A&B)|(!A|!B)" 0 Covered
   pub contraposed-0 : Checks "(p>q)=(!q>!p)" 0 Undecided

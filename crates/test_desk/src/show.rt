@@ -61,7 +61,7 @@ impl<T: Show> fmt::Display for Shown<T> {
     fn fmt<W: fmt::Write>(&self, f: &mut fmt::Formatter<W>) -> fmt::Result {
         match &self.0 {
             Ok(answer) => answer.show(f),
-            Err(refusal) => write!(f, "refused {} {}", refusal.number, refusal.place),
+            Err(refusal) => write!(f, "refused {} {}", refusal.reason.number(), refusal.place),
         }
     }
 }

@@ -9,6 +9,7 @@ use Rattle.notation.specs.Tokens.{Tokens, Sign, same, implies, or, and, stray, l
 use Rattle.notation.specs.Walk.{Flag, accepted, walk, operand, after}
 use Rattle.notation.specs.Grammar.{same_sign, is_sign, sign_next, past}
 use Rattle.notation.proofs.Accepted.{not-accepted, within-kept}
+use Rattle.notation.specs.declared.refusal.Reason.TheVariants.{StrayByte, LongCode, OutOfPlace, ManyConnectives}
 use Rattle.operands.specs.clauses.Steps.{binding}
 
 -- where a sign stands next, the tokens are that sign and those past it
@@ -34,7 +35,7 @@ sign_kept : (d : ℕ) (u : List Flag) (m p : ℕ) (t : Sign) (ts : Tokens) (w : 
     →
     m < connective_ceiling
 unfolding walk
-sign_kept d u m p t ts w j e = within-kept (suc m) connective_ceiling 8 p (walk operand d u (suc m) ts) w j e
+sign_kept d u m p t ts w j e = within-kept (suc m) connective_ceiling ManyConnectives p (walk operand d u (suc m) ts) w j e
 
 pub sign-room : (s : Sign) (d : ℕ) (u : List Flag) (m : ℕ) (ts : Tokens) (w : List Flag) (j : ℕ) → sign_next s ts ≡ true →
     walk after d u m ts ≡ accepted w j → m < connective_ceiling
@@ -62,14 +63,14 @@ pub record Closing (us : Tokens) : Type 0 where
 pub closing-is : (d : ℕ) (u : List Flag) (m : ℕ) (us : Tokens) (w : List Flag) (j : ℕ) → NoSign us → walk after (suc d) u m us ≡ accepted w j
     → Closing us
 unfolding walk
-closing-is d u m (end p) w j n e = absurd (not-accepted 5 p w j e)
-closing-is d u m (at p stray ts) w j n e = absurd (not-accepted 3 p w j e)
-closing-is d u m (at p long ts) w j n e = absurd (not-accepted 4 p w j e)
-closing-is d u m (at p (code c) ts) w j n e = absurd (not-accepted 5 p w j e)
-closing-is d u m (at p (hash b) ts) w j n e = absurd (not-accepted 5 p w j e)
-closing-is d u m (at p bang ts) w j n e = absurd (not-accepted 5 p w j e)
+closing-is d u m (end p) w j n e = absurd (not-accepted OutOfPlace p w j e)
+closing-is d u m (at p stray ts) w j n e = absurd (not-accepted StrayByte p w j e)
+closing-is d u m (at p long ts) w j n e = absurd (not-accepted LongCode p w j e)
+closing-is d u m (at p (code c) ts) w j n e = absurd (not-accepted OutOfPlace p w j e)
+closing-is d u m (at p (hash b) ts) w j n e = absurd (not-accepted OutOfPlace p w j e)
+closing-is d u m (at p bang ts) w j n e = absurd (not-accepted OutOfPlace p w j e)
 closing-is d u m (at p (sign s) ts) w j n e = absurd (no_sign p s ts n)
-closing-is d u m (at p opening ts) w j n e = absurd (not-accepted 5 p w j e)
+closing-is d u m (at p opening ts) w j n e = absurd (not-accepted OutOfPlace p w j e)
 closing-is d u m (at p closing ts) w j n e = record { place = p; rest = ts; is = refl }
 
 -- after a guard that stands in no bracket the text ends
@@ -82,11 +83,11 @@ pub record Ended (u : List Flag) (m : ℕ) (us : Tokens) (w : List Flag) (j : �
 pub end_is : (u : List Flag) (m : ℕ) (us : Tokens) (w : List Flag) (j : ℕ) → NoSign us → walk after 0 u m us ≡ accepted w j → Ended u m us w j
 unfolding walk
 end_is u m (end p) w j n e = record { place = p; is = refl; flags = cc; signs = cc }
-end_is u m (at p stray ts) w j n e = absurd (not-accepted 3 p w j e)
-end_is u m (at p long ts) w j n e = absurd (not-accepted 4 p w j e)
-end_is u m (at p (code c) ts) w j n e = absurd (not-accepted 5 p w j e)
-end_is u m (at p (hash b) ts) w j n e = absurd (not-accepted 5 p w j e)
-end_is u m (at p bang ts) w j n e = absurd (not-accepted 5 p w j e)
+end_is u m (at p stray ts) w j n e = absurd (not-accepted StrayByte p w j e)
+end_is u m (at p long ts) w j n e = absurd (not-accepted LongCode p w j e)
+end_is u m (at p (code c) ts) w j n e = absurd (not-accepted OutOfPlace p w j e)
+end_is u m (at p (hash b) ts) w j n e = absurd (not-accepted OutOfPlace p w j e)
+end_is u m (at p bang ts) w j n e = absurd (not-accepted OutOfPlace p w j e)
 end_is u m (at p (sign s) ts) w j n e = absurd (no_sign p s ts n)
-end_is u m (at p opening ts) w j n e = absurd (not-accepted 5 p w j e)
-end_is u m (at p closing ts) w j n e = absurd (not-accepted 5 p w j e)
+end_is u m (at p opening ts) w j n e = absurd (not-accepted OutOfPlace p w j e)
+end_is u m (at p closing ts) w j n e = absurd (not-accepted OutOfPlace p w j e)

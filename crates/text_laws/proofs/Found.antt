@@ -16,6 +16,7 @@ use Rattle.notation.specs.Grammar.{Parsed, found, follow, number, closed, same_o
 use Rattle.notation.specs.Reading.{refusal, guard, judged, reading}
 use Rattle.ground.proofs.Cases.{either}
 use Rattle.notation.proofs.Accepted.{not-accepted, within-accepted, within-kept}
+use Rattle.notation.specs.declared.refusal.Reason.TheVariants.{LongText, StrayByte, LongCode, OutOfPlace, ManyBrackets, ManyFlags}
 use Rattle.levels.specs.clauses.Levels.{plain, operands_at}
 use Rattle.operands.proofs.Operands.{no-tighter}
 use Rattle.text_laws.specs.Texts.{whole, code_of, leaves, seen_at}
@@ -99,25 +100,25 @@ module _ (d : ℕ) (u : List Flag) (m p : ℕ) (ts : Tokens) where
       walk operand d u m (at p opening ts) ≡ accepted w j → Takes (plain (operands_at d)) d 0 u m (at p opening ts)
   unfolding walk
   bracket-takes n w j l o e =
-      let fits : suc d ≤ bracket_ceiling = within-kept (suc d) bracket_ceiling 6 p (walk operand (suc d) u m ts) w j e in
-      let on : walk operand (suc d) u m ts ≡ accepted w j = within-accepted (suc d) bracket_ceiling 6 p (walk operand (suc d) u m ts) w j e in
+      let fits : suc d ≤ bracket_ceiling = within-kept (suc d) bracket_ceiling ManyBrackets p (walk operand (suc d) u m ts) w j e in
+      let on : walk operand (suc d) u m ts ≡ accepted w j = within-accepted (suc d) bracket_ceiling ManyBrackets p (walk operand (suc d) u m ts) w j e in
       let t : Takes (plain (same_of (operands_at (suc d)))) (suc d) 4 u m ts = o u m ts w j l on in
       closed-takes t fits (closing-is d t.flags t.signs t.rest w j t.reads.stops (sym t.reads.walked ∙ on))
 
 operands-take : (n d : ℕ) → Taking (plain (operands_at d)) d 0 n
 unfolding walk size
 operands-take zero d u m ts w j l e = absurd (omega arith)
-operands-take (suc n) d u m (end p) w j l e = absurd (not-accepted 5 p w j e)
-operands-take (suc n) d u m (at p stray ts) w j l e = absurd (not-accepted 3 p w j e)
-operands-take (suc n) d u m (at p long ts) w j l e = absurd (not-accepted 4 p w j e)
+operands-take (suc n) d u m (end p) w j l e = absurd (not-accepted OutOfPlace p w j e)
+operands-take (suc n) d u m (at p stray ts) w j l e = absurd (not-accepted StrayByte p w j e)
+operands-take (suc n) d u m (at p long ts) w j l e = absurd (not-accepted LongCode p w j e)
 operands-take (suc n) d u m (at p (code c) ts) w j l e =
-    code-takes d u m p ts c (within-kept (length (seen p c u)) flag_ceiling 7 p (walk after d (seen p c u) m ts) w j e)
+    code-takes d u m p ts c (within-kept (length (seen p c u)) flag_ceiling ManyFlags p (walk after d (seen p c u) m ts) w j e)
 operands-take (suc n) d u m (at p (hash b) ts) w j l e = truth-takes d u m p ts b
 operands-take (suc n) d u m (at p bang ts) w j l e = bang-takes d u m p ts (operands-take n d u m ts w j (omega arith) e)
-operands-take (suc n) d u m (at p (sign s) ts) w j l e = absurd (not-accepted 5 p w j e)
+operands-take (suc n) d u m (at p (sign s) ts) w j l e = absurd (not-accepted OutOfPlace p w j e)
 operands-take (suc n) d u m (at p opening ts) w j l e =
     bracket-takes d u m p ts n w j (omega arith) (levels-take (operands_at (suc d)) (suc d) n (operands-take n (suc d))) e
-operands-take (suc n) d u m (at p closing ts) w j l e = absurd (not-accepted 5 p w j e)
+operands-take (suc n) d u m (at p closing ts) w j l e = absurd (not-accepted OutOfPlace p w j e)
 
 -- ---- a whole text
 -- the text ends where its bytes do
@@ -209,7 +210,7 @@ is_read text g u e =
     (λ (h : leb (length text) text_ceiling ≡ true).
     judged-read text (leb-true (length text) text_ceiling h) (walk operand 0 [] 0 (tokens text)) refl g u (rw h at e))
     (λ (h : leb (length text) text_ceiling ≡ false).
-    let r : refusal 1 text_ceiling ≡ guard g u = rw h at e in
+    let r : refusal LongText text_ceiling ≡ guard g u = rw h at e in
     let z : ◌≡◌ {A = ℕ} 0 1 = cc in
     absurd (omega arith))
     (either (leb (length text) text_ceiling))

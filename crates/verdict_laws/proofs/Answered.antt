@@ -117,7 +117,7 @@ module _ (ts : List Triplet) (root k n : ℕ) where
 
 -- ---- of texts
 reading-answers : (x : Reading) (k : ℕ) → (r : Checking) × ReadingSays x k r
-reading-answers (refusal number p) k = (Err (record { number = number; place = p }), refl)
+reading-answers (refusal reason p) k = (Err (record { reason = reason; place = p }), refl)
 reading-answers (guard g u) k =
     let o = outline-exists (triplets 0 g) (literal 0 g) k (length u) in
     (Ok o.0, (outline-says (triplets 0 g) (literal 0 g) k (length u) o.0).0 o.1)

@@ -13,6 +13,8 @@ use Rattle.notation.specs.Guard.{Guard}
 use Rattle.notation.specs.Reading.{Reading, guard, reading}
 use Rattle.ground.proofs.Cases.{split-eq, lt-or-ge}
 use Rattle.notation.proofs.Accepted.{reading-accepted}
+use Rattle.notation.specs.declared.refusal.Reason.{Reason}
+use Rattle.notation.specs.declared.refusal.Reason.TheVariants.{LongText, HighDepth}
 use Rattle.truth.specs.Value.{value}
 use Rattle.gaps.specs.Gaps.{false_from, gaps_from}
 use Rattle.gaps.proofs.Ascending.{false-not, false-one}
@@ -39,7 +41,7 @@ first-listed v lo (suc k) s a b f h =
     (split-eq s lo)
 
 -- a verdict is no refusal
-pub verdict-no-refusal : (v : Verdict) (k p : ℕ) → ◌≡◌ {A = Checking} (Ok v) (Err (record { number = k; place = p })) → ⊥
+pub verdict-no-refusal : (v : Verdict) (k : Reason) (p : ℕ) → ◌≡◌ {A = Checking} (Ok v) (Err (record { reason = k; place = p })) → ⊥
 verdict-no-refusal v k p e = cc
 
 module _ (text : List ℕ) (g : Guard) (u : List Flag) (says : reading text ≡ guard g u) (depth : ℕ) where
@@ -50,11 +52,12 @@ module _ (text : List ℕ) (g : Guard) (u : List Flag) (says : reading text ≡ 
   on-guard : (v : Verdict) → CheckSays text depth (Ok v) → Checked (length u) g depth v
   on-guard v h =
       ⊎_elim
-      (λ (a : text_ceiling < length text). absurd (verdict-no-refusal v 1 text_ceiling (subst (λ (x : Reading). ReadingSays x depth (Ok v))
+      (λ (a : text_ceiling < length text). absurd (verdict-no-refusal v LongText text_ceiling (subst (λ (x : Reading). ReadingSays x depth (Ok v))
       (asks-long text depth a) h)))
       (λ (a : length text ≤ text_ceiling).
       ⊎_elim
-      (λ (b : depth_ceiling < depth). absurd (verdict-no-refusal v 2 0 (subst (λ (x : Reading). ReadingSays x depth (Ok v)) (asks-deep text depth a b) h)))
+      (λ (b : depth_ceiling < depth). absurd
+      (verdict-no-refusal v HighDepth 0 (subst (λ (x : Reading). ReadingSays x depth (Ok v)) (asks-deep text depth a b) h)))
       (λ (b : depth ≤ depth_ceiling). subst (λ (x : Reading). ReadingSays x depth (Ok v)) (asks-text text depth a b ∙ says) h)
       (lt-or-ge depth_ceiling depth))
       (lt-or-ge text_ceiling (length text))

@@ -23,10 +23,10 @@ use Rattle.verdict_laws.specs.Together.{RefusedTogether}
 says-only : (text : List ℕ) (depth : ℕ) (v : Checking) → CheckSays text depth v → (r : Checking) → CheckSays text depth r ↔ (r ≡ v)
 says-only text depth v h r = (λ a. check-unique text depth r v a h, λ e. subst (λ (w : Checking). CheckSays text depth w) (sym e) h)
 
-module _ (text : List ℕ) (f : Refusal) (says : reading text ≡ refusal f.number f.place) where
+module _ (text : List ℕ) (f : Refusal) (says : reading text ≡ refusal f.reason f.place) where
   check-long : text_ceiling < length text → (depth : ℕ) → CheckSays text depth (Err f)
   check-long h depth =
-      let e : asked text depth ≡ refusal f.number f.place = asks-long text depth h ∙ sym (whole-too-long text h) ∙ says in
+      let e : asked text depth ≡ refusal f.reason f.place = asks-long text depth h ∙ sym (whole-too-long text h) ∙ says in
       subst (λ (x : Reading). ReadingSays x depth (Err f)) (sym e) refl
 
   check-here : (depth : ℕ) → depth ≤ depth_ceiling → CheckSays text depth (Err f)
@@ -34,12 +34,12 @@ module _ (text : List ℕ) (f : Refusal) (says : reading text ≡ refusal f.numb
       ⊎_elim (λ (h : text_ceiling < length text). check-long h depth) (λ (h : length text ≤ text_ceiling). refused-too text depth h d f says)
       (lt-or-ge text_ceiling (length text))
 
-  read-refused : (room : List ℕ) (r : Parsed) (after : List ℕ) → ReadSays text room r after → (r ≡ refused_with f.number f.place)
+  read-refused : (room : List ℕ) (r : Parsed) (after : List ℕ) → ReadSays text room r after → (r ≡ refused_with f.reason f.place)
       × (after ≡ room)
   unfolding read_answer room_after
   read-refused room r after h = (rw says at h.answer, rw says at h.left)
 
-  name-refused : (i : ℕ) → name_answer (reading text) i ≡ unnamed f.number f.place
+  name-refused : (i : ℕ) → name_answer (reading text) i ≡ unnamed f.reason f.place
   unfolding name_answer
   name-refused i = rw says
 

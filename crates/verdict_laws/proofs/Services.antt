@@ -16,6 +16,8 @@ use Rattle.notation.specs.Guard.{Guard}
 use Rattle.notation.specs.Reading.{Reading, refusal, guard, reading}
 use Rattle.ground.proofs.Cases.{lt-or-ge, never}
 use Rattle.notation.proofs.Accepted.{reading-accepted}
+use Rattle.notation.specs.declared.refusal.Reason.{Reason}
+use Rattle.notation.specs.declared.refusal.Reason.TheVariants.{LongText, HighDepth}
 use Rattle.reading.proofs.Parsing.{whole-too-long}
 use Rattle.truth.specs.Value.{value}
 use Rattle.evaluate.specs.Evaluated.{evaluated}
@@ -37,7 +39,7 @@ use Rattle.verdict_laws.proofs.Demands.{verdict-no-refusal, covered-true, gap-fi
 use Rattle.verdict_laws.specs.Together.{IsRead, NoRefusal, GapTogether, CoveredTogether, NoneTogether, NextTogether}
 
 -- ---- a verdict that is no refusal is on a text that is read
-not-refused : (k p : ℕ) (r : Checking) → NoRefusal r → r ≡ Err (record { number = k; place = p }) → ⊥
+not-refused : (k : Reason) (p : ℕ) (r : Checking) → NoRefusal r → r ≡ Err (record { reason = k; place = p }) → ⊥
 not-refused k p (Ok v) h e = verdict-no-refusal v k p e
 not-refused k p (Err f) h e = h
 
@@ -49,10 +51,11 @@ read-when text depth r n (guard g u) e h = record { tree = g; flags = u; says = 
 pub verdict-read : (text : List ℕ) (depth : ℕ) (r : Checking) → NoRefusal r → CheckSays text depth r → IsRead text
 verdict-read text depth r n h =
     ⊎_elim
-    (λ (a : text_ceiling < length text). absurd (not-refused 1 text_ceiling r n (subst (λ (x : Reading). ReadingSays x depth r) (asks-long text depth a) h)))
+    (λ (a : text_ceiling < length text). absurd
+    (not-refused LongText text_ceiling r n (subst (λ (x : Reading). ReadingSays x depth r) (asks-long text depth a) h)))
     (λ (a : length text ≤ text_ceiling).
     ⊎_elim
-    (λ (b : depth_ceiling < depth). absurd (not-refused 2 0 r n (subst (λ (x : Reading). ReadingSays x depth r) (asks-deep text depth a b) h)))
+    (λ (b : depth_ceiling < depth). absurd (not-refused HighDepth 0 r n (subst (λ (x : Reading). ReadingSays x depth r) (asks-deep text depth a b) h)))
     (λ (b : depth ≤ depth_ceiling). read-when text depth r n (reading text) refl
     (subst (λ (x : Reading). ReadingSays x depth r) (asks-text text depth a b) h))
     (lt-or-ge depth_ceiling depth))
@@ -76,7 +79,7 @@ pub read_short : (text : List ℕ) (g : Guard) (u : List Flag) → reading text 
 read_short text g u e =
     ⊎_elim
     (λ (a : text_ceiling < length text).
-    let r : refusal 1 text_ceiling ≡ guard g u = sym (whole-too-long text a) ∙ e in let z : ◌≡◌ {A = ℕ} 0 1 = cc in absurd (omega arith))
+    let r : refusal LongText text_ceiling ≡ guard g u = sym (whole-too-long text a) ∙ e in let z : ◌≡◌ {A = ℕ} 0 1 = cc in absurd (omega arith))
     (λ (a : length text ≤ text_ceiling). a)
     (lt-or-ge text_ceiling (length text))
 

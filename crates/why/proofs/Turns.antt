@@ -11,6 +11,7 @@ use lib.Pow.{pow-lt}
 use Rattle.notation.specs.declared.codes.Code.{Code}
 use Rattle.notation.specs.Triplets.{negation}
 use Rattle.notation.specs.Reading.{refusal, reading}
+use Rattle.notation.specs.declared.refusal.Reason.TheVariants.{NoGap}
 use Rattle.notation.specs.declared.refusal.Refusal.{Refusal}
 use Rattle.reading.specs.declared.parse.Guard as counted
 use Rattle.reading.proofs.Serving as serving
@@ -126,7 +127,7 @@ keeping-same : (n m : ℕ) (v w : ℕ → Bool) (gap keep : ℕ) → n ≡ m →
 keeping-same n m v w gap keep e f k = rw (← e, ← f) k
 
 module _ (text : List ℕ) (state : ℕ) where
-  pub explains-refusal : (f : Refusal) → reading text ≡ refusal f.number f.place → Explains (reading text) state (Err f)
+  pub explains-refusal : (f : Refusal) → reading text ≡ refusal f.reason f.place → Explains (reading text) state (Err f)
   explains-refusal f e = rw e refl
 
   module _ (x : counted.Guard) (codes : List Code) (xs : List ℕ) (f : serving.Found text (reading text) x codes xs) where
@@ -135,7 +136,7 @@ module _ (text : List ℕ) (state : ℕ) where
         ∙ ap (λ (n : ℕ). value n s f.tree) (read_flags text x codes xs f)
 
     pub explains-no-gap : ltb state (2 ^ x.flags) ≡ true → root_value x.flags xs x.count x.root state ≡ true → (k : Refusal)
-        → k ≡ fault 16 0
+        → k ≡ fault NoGap 0
         → Explains (reading text) state (Err k)
     explains-no-gap h e k d =
         let soon : ltb state (2 ^ length f.flags) ≡ true = rw (read_flags text x codes xs f) at h in

@@ -14,6 +14,7 @@ use Rattle.why.specs.Kept.{Forces, without, Turn, Went}
 use Rattle.why.specs.Explained.{Explanation, KeptOf, Explains}
 use Rattle.std.specs.Prelude.{Ok, Err}
 use Rattle.notation.specs.Refusals.{fault}
+use Rattle.notation.specs.declared.refusal.Reason.TheVariants.{NoState, NoGap}
 
 module _ (n : ℕ) (v : ℕ → Bool) (gap : ℕ) where
   turn-unique : (i : ℕ) (was k m : ℕ → Bool) → Turn n v gap i was k → Turn n v gap i was m → k ≡ m
@@ -55,7 +56,7 @@ by_state n g state false b x y r s p q = p ∙ sym q
 
 -- no second answer satisfies why's statement
 pub why-unique : (t : Reading) (state : ℕ) (r s : Explanation) → Explains t state r → Explains t state s → r ≡ s
-why-unique (refusal number p) state r s a b = a ∙ sym b
+why-unique (refusal reason p) state r s a b = a ∙ sym b
 why-unique (guard g codes) state r s a b =
     by_state (length codes) g state (ltb state (2 ^ length codes)) (value (length codes) state g)
-    (Err (fault 16 0)) (Err (fault 9 0)) r s a b
+    (Err (fault NoGap 0)) (Err (fault NoState 0)) r s a b

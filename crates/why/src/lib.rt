@@ -14,7 +14,7 @@ use freeing::some::fix_some;
 use gaps::writing::Found;
 use notation::ceilings::{FLAGS, LITERALS, TRIPLETS_ROOM};
 use notation::codes::Code;
-use notation::refusal::{Refusal, fault};
+use notation::refusal::{Reason, Refusal, fault};
 use reading::parse::parse;
 use search::search;
 use truth::formula::Formula;
@@ -73,7 +73,7 @@ pub fn why(text: &[u8], state: u64) -> Result<u64, Refusal>
     let mut triplets = [0u16; TRIPLETS_ROOM];
     let guard = parse(text, &mut codes, &mut triplets)?;
     if !is_state(state, guard.flags) {
-        return Err(fault(9, 0));
+        return Err(fault(Reason::NoState, 0));
     }
     let formula = Formula {
         triplets: &triplets,
@@ -82,7 +82,7 @@ pub fn why(text: &[u8], state: u64) -> Result<u64, Refusal>
         flags: guard.flags,
     };
     if formula.value(state) {
-        return Err(fault(16, 0));
+        return Err(fault(Reason::NoGap, 0));
     }
     let keep = kept_flags(&formula, state);
     Ok(keep)

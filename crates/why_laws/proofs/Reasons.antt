@@ -8,6 +8,7 @@ use lib.ListN.{length}
 use lib.Dec.{eqb, ltb}
 use borrow.Author.Tests.{ltb-true, lt-ltb}
 use Rattle.ground.specs.Choice.{choose}
+use Rattle.notation.specs.declared.refusal.Reason.TheVariants.{NoState, NoGap}
 use Rattle.notation.specs.declared.refusal.Refusal.{Refusal}
 use Rattle.notation.specs.Walk.{Flag}
 use Rattle.notation.specs.Guard.{Guard}
@@ -58,17 +59,17 @@ kept-or-refused m f e = let z : ◌≡◌ {A = ℕ} 0 1 = ap is_refused e in ome
 
 -- where flags are answered, the number is a state, and false
 by-gap : (n : ℕ) (g : Guard) (state : ℕ) (b : Bool) (m : ℕ) → b ≡ value n state g → state < 2 ^ n
-    → choose b (Ok m ≡ Err (fault 16 0)) (KeptOf n g state (Ok m)) → Reason n (λ s. value n s g) state m
-by-gap n g state true m e h p = absurd (kept-or-refused m (fault 16 0) p)
+    → choose b (Ok m ≡ Err (fault NoGap 0)) (KeptOf n g state (Ok m)) → Reason n (λ s. value n s g) state m
+by-gap n g state true m e h p = absurd (kept-or-refused m (fault NoGap 0) p)
 by-gap n g state false m e h p =
     let k : m ≡ state_with n p.0 = ap mask_in p.2 in
     rw k (kept-reason n (λ s. value n s g) state p.0 h (sym e) p.1)
 
 by_number : (n : ℕ) (g : Guard) (state : ℕ) (a : Bool) (m : ℕ) → a ≡ ltb state (2 ^ n)
-    → choose a (choose (value n state g) (Ok m ≡ Err (fault 16 0)) (KeptOf n g state (Ok m))) (Ok m ≡ Err (fault 9 0))
+    → choose a (choose (value n state g) (Ok m ≡ Err (fault NoGap 0)) (KeptOf n g state (Ok m))) (Ok m ≡ Err (fault NoState 0))
     → Reason n (λ s. value n s g) state m
 by_number n g state true m e p = by-gap n g state (value n state g) m refl (ltb-true state (2 ^ n) (sym e)) p
-by_number n g state false m e p = absurd (kept-or-refused m (fault 9 0) p)
+by_number n g state false m e p = absurd (kept-or-refused m (fault NoState 0) p)
 
 -- where why answers flags of a guard, they are the gap's reason
 pub guard-reason : (g : Guard) (codes : List Flag) (state m : ℕ) → Explains (guard g codes) state (Ok m)
@@ -105,7 +106,7 @@ module _ (text : List ℕ) (g : Guard) (codes : List Flag) (e : reading text ≡
       }
 
 by-reading : (text : List ℕ) (t : Reading) (state m : ℕ) → reading text ≡ t → Explains t state (Ok m) → TextReason text state m
-by-reading text (refusal number p) state m e q = absurd (kept-or-refused m (fault number p) q)
+by-reading text (refusal reason p) state m e q = absurd (kept-or-refused m (fault reason p) q)
 by-reading text (guard g codes) state m e p = of_guard text g codes e state m (guard-reason g codes state m p)
 
 -- the reader's theorem: where why answers flags of a text, evaluate answers false wherever a state has the gap's values at them, and not so with one dropped

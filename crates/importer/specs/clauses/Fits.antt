@@ -2,6 +2,7 @@
 use Rattle.std.specs.Prelude.{◌^◌, ◌≤◌, ◌<◌, Bool, Result, Ok, Err}
 use Rattle.notation.specs.Ceilings.{text_ceiling, code_ceiling, flag_ceiling, connective_ceiling}
 use Rattle.notation.specs.Triplets.{literal_ceiling}
+use Rattle.notation.specs.Refusals.{number_of}
 use Rattle.notation.specs.declared.refusal.Refusal.{Refusal}
 use Rattle.reading.specs.clauses.Parsing.{last_refusal}
 use Rattle.reading.specs.declared.parse.Guard as counted
@@ -13,7 +14,7 @@ use Rattle.saturation.specs.declared.verdict.Verdict.TheVariants as verdict
 
 -- a number of the table, and a place within the longest text
 pub record RefusalFits (f : Refusal) : Type 0 where
-  pub number : f.number ≤ last_refusal
+  pub number : number_of f.reason ≤ last_refusal
   pub place : f.place ≤ text_ceiling
 
 -- a gap is a state of so many flags as there may be

@@ -86,7 +86,7 @@ pub record Says (L : ℕ → Level) (d k : ℕ) (text : List ℕ) (p : Place) (c
     (codes' : List Code) (out' : List ℕ) (wait' : Stack) : Type 0 where
   pub found : (l : ℕ) → r ≡ Ok l → FoundPart L d k text (place p) codes out (part l p') codes' out'
   pub refused : (x : Refused) → r ≡ Err x →
-      walk operand d (flags_in text codes p.flags) p.signs (ahead text p.token) ≡ refused p'.refusal.number p'.refusal.place
+      walk operand d (flags_in text codes p.flags) p.signs (ahead text p.token) ≡ refused p'.refusal.reason p'.refusal.place
   pub still : (l : ℕ) → r ≡ Ok l → Still wait wait'
   pub rooms : Rooms out' wait'
 

@@ -88,4 +88,4 @@ pub record NextToken (text : List ℕ) (from : ℕ) (t : Token) : Type 0 where
 
 -- the walk is refused at these tokens, whatever came before
 abbrev pub FaultyHere : Tokens → Refusal → Type 0
-FaultyHere ts f = (w : Wanted) (d : ℕ) (u : List Flag) (m : ℕ) → walk w d u m ts ≡ refused f.number f.place
+FaultyHere ts f = (w : Wanted) (d : ℕ) (u : List Flag) (m : ℕ) → walk w d u m ts ≡ refused f.reason f.place

@@ -2,6 +2,8 @@
 use Rattle.std.specs.Prelude.{ℕ, ◌≡◌, List, Result, Ok, Err}
 use Rattle.notation.specs.clauses.Cut.{NextToken, FaultyHere}
 use Rattle.notation.specs.Tokens.{tokens_at}
+use Rattle.notation.specs.declared.refusal.Reason.{Reason}
+use Rattle.notation.specs.declared.refusal.Reason.TheVariants.{OutOfPlace}
 use Rattle.notation.specs.declared.refusal.Refused.{Refused}
 use Rattle.notation.specs.declared.place.Kind.TheVariants as kind
 use Rattle.notation.specs.declared.place.Place.{Place}
@@ -13,7 +15,7 @@ before from n = record {
   flags = n;
   signs = 0;
   count = 0;
-  refusal = record { number = 0; place = 0 };
+  refusal = record { reason = OutOfPlace; place = 0 };
 }
 
 -- what lies behind is as it was
@@ -23,8 +25,8 @@ pub record SameBehind (p p' : Place) : Type 0 where
   pub count : p'.count ≡ p.count
 
 -- the place holds this refusal now
-pub record RefusedAt (n s : ℕ) (p p' : Place) : Type 0 where
-  pub refusal : p'.refusal ≡ record { number = n; place = s }
+pub record RefusedAt (n : Reason) (s : ℕ) (p p' : Place) : Type 0 where
+  pub refusal : p'.refusal ≡ record { reason = n; place = s }
   pub behind : SameBehind p p'
 
 -- the next token from a place of the text on is ahead now, or it is faulty

@@ -113,7 +113,7 @@ pub record AdvancedSays (text : List ℕ) (p : Place) (r : Result Unit Refused) 
 pub record PastSignSays (text : List ℕ) (p : Place) (r : Result Unit Refused) (p' : Place) : Type 0 where
   pub taken : r ≡ Ok tt → Advanced text (place p) (p.signs + 1) (place p') × (p.signs < connective_ceiling)
   pub refused : (e : Refused) → r ≡ Err e → (d : ℕ) (u : List Flag) →
-      walk after d u p.signs (ahead text p.token) ≡ refused p'.refusal.number p'.refusal.place
+      walk after d u p.signs (ahead text p.token) ≡ refused p'.refusal.reason p'.refusal.place
 
 -- the literal l past a token, or what follows is faulty
 pub record PastTokenSays (text : List ℕ) (p : Place) (l : ℕ) (r : Result ℕ Refused) (p' : Place) : Type 0 where
@@ -140,7 +140,7 @@ pub record Atom (text : List ℕ) (at : At) (codes : List Code) (l : ℕ) (to : 
 pub record AtomSays (text : List ℕ) (p : Place) (codes : List Code) (r : Result ℕ Refused) (p' : Place) (codes' : List Code) : Type 0 where
   pub found : (l : ℕ) → r ≡ Ok l → Atom text (place p) codes l (place p') codes'
   pub refused : (e : Refused) → r ≡ Err e → (d : ℕ) →
-      walk operand d (flags_in text codes p.flags) p.signs (ahead text p.token) ≡ refused p'.refusal.number p'.refusal.place
+      walk operand d (flags_in text codes p.flags) p.signs (ahead text p.token) ≡ refused p'.refusal.reason p'.refusal.place
 
 -- `#0` or `#1`, whatever the table holds
 abbrev pub TruthSays : List ℕ → Place → Result ℕ Refused → Place → Type 0
@@ -156,7 +156,7 @@ pub record Closed (text : List ℕ) (at to : At) : Type 0 where
 pub record ClosedSays (text : List ℕ) (p : Place) (r : Result Unit Refused) (p' : Place) : Type 0 where
   pub taken : r ≡ Ok tt → Closed text (place p) (place p')
   pub refused : (e : Refused) → r ≡ Err e → (d : ℕ) (u : List Flag) (m : ℕ) →
-      walk after (suc d) u m (ahead text p.token) ≡ refused p'.refusal.number p'.refusal.place
+      walk after (suc d) u m (ahead text p.token) ≡ refused p'.refusal.reason p'.refusal.place
 
 -- two operands joined: the reader has written one triplet more
 abbrev pub joined_part : Sign → Part → Part

@@ -10,6 +10,7 @@ use Rattle.notation.specs.declared.codes.Code.{Code}
 use Rattle.notation.specs.Reading as read
 use Rattle.notation.specs.Reading.{Reading}
 use Rattle.reading.specs.clauses.Parsing.{GuardRead}
+use Rattle.notation.specs.declared.refusal.Reason.TheVariants.{WrongField, WrongVariants}
 use Rattle.notation.specs.declared.refusal.Refusal.{Refusal}
 use Rattle.reading.specs.Service.{Parsed}
 use Rattle.fields.specs.clauses.Here.{FieldHere}
@@ -70,10 +71,10 @@ pub record GuardAsks (file : List ℕ) (s e flags total row : ℕ) (codes : List
 
 -- the step at the end of the pack
 abbrev pub end_step : Due → ℕ → Step
-end_step due.Id at = Err (fault 13 at)
-end_step due.RuleOrVariant at = Err (fault 14 at)
-end_step due.Variant at = Err (fault 14 at)
-end_step due.Text at = Err (fault 13 at)
+end_step due.Id at = Err (fault WrongField at)
+end_step due.RuleOrVariant at = Err (fault WrongVariants at)
+end_step due.Variant at = Err (fault WrongVariants at)
+end_step due.Text at = Err (fault WrongField at)
 end_step due.VariantOrEnd at = Ok None
 
 -- what a step from p answers, and what the lent tables then hold

@@ -9,6 +9,7 @@ use Rattle.notation.specs.Reading.{Reading, refusal, guard}
 use Rattle.notation.specs.clauses.Cut.{ends}
 use Rattle.notation.specs.clauses.Codes.{codes_room, start_of, end_of, flags_in, InText}
 use Rattle.notation.specs.declared.codes.Code.{Code}
+use Rattle.notation.specs.declared.refusal.Reason.TheVariants.{OutOfPlace, NoFlag}
 use Rattle.operands.specs.clauses.Steps.{Part}
 use Rattle.reading.specs.Service.{Parsed, Named, guard_with, refused_with, part_with, unnamed}
 
@@ -34,7 +35,7 @@ ParseSays text (guard g u) r codes out = GuardRead text g u r codes out
 
 -- a guard that the text ends after
 abbrev pub ended_as : Part → Parsed
-ended_as p = choose (ends p.at.token.kind) (guard_with p.at.flags p.at.count p.literal) (refused_with 5 p.at.token.start)
+ended_as p = choose (ends p.at.token.kind) (guard_with p.at.flags p.at.count p.literal) (refused_with OutOfPlace p.at.token.start)
 
 -- the first k codes of the table end no earlier than they start
 pub record Spans (codes : List Code) (k : ℕ) : Type 0 where
@@ -44,4 +45,4 @@ pub record Spans (codes : List Code) (k : ℕ) : Type 0 where
 -- the part that code i of the table is, i counted from 1
 abbrev pub named_in : List Code → ℕ → ℕ → Named
 named_in codes k i = choose (ltb 0 i) (choose (leb i k) (part_with (start_of codes (i - 1)) (end_of codes (i - 1) - start_of codes (i - 1)))
-    (unnamed 11 0)) (unnamed 11 0)
+    (unnamed NoFlag 0)) (unnamed NoFlag 0)

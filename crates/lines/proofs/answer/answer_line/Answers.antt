@@ -4,10 +4,11 @@ use Rattle.std.specs.Prelude.{None, Err}
 use Rattle.lines.proofs.Asking.{guard-inside}
 use Rattle.lines.proofs.Answering.{answers}
 use Rattle.lines.proofs.answer.answer_line.Goals as goal
+use Rattle.notation.specs.declared.refusal.Reason.TheVariants.{MalformedLine}
 
 pub returns-in_default : goal.returns-in_default
 returns-in_default c =
-    answers c.args.number c.args.line.now None (Err (record { number = 12; place = 0 })) c.args.out.now c.put_line.new.out
+    answers c.args.number c.args.line.now None (Err (record { reason = MalformedLine; place = 0 })) c.args.out.now c.put_line.new.out
     c.put_line.result (sym c.in_default.is ∙ c.question_of.ensures) refl c.put_line.ensures
 
 pub slice_bounds-text-count : goal.slice_bounds-text-count

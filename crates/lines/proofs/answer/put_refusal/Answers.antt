@@ -7,4 +7,4 @@ use Rattle.lines.proofs.answer.put_refusal.Goals as goal
 pub returns : goal.returns
 unfolding bytes
 returns c =
-    refusal-put [] c.args.refusal c.put_all-number.ensures c.put_number-space.ensures c.put-place.ensures c.put_number.ensures
+    refusal-put [] c.args.refusal c.put_all-number.ensures (rw c.number.ensures at c.put_number-space.ensures) c.put-place.ensures c.put_number.ensures
