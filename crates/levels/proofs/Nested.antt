@@ -143,13 +143,15 @@ module _ {text : List ℕ} {p₀ p : Place} {odd : ℕ} {bang : Bool} (b : Bange
         (subst (λ (x : ℕ). FoundPart (plain (operands_at d)) d 0 text (place p₀) codes out (part x p') codes' out') (sym f)
         (behind-found text (place p₀) (place p) odd b.passed codes d out (h.found l e))) (h.still l e) h.rooms
 
-pub banged-none : {text : List ℕ} {p : Place} {d : ℕ} {codes : List Code} {out : List ℕ} {wait : Stack} → Asks text p d codes out wait → {bang : Bool} → bang ≡ bangs
+pub banged-none : {text : List ℕ} {p : Place} {d : ℕ} {codes : List Code} {out : List ℕ} {wait : Stack} → Asks text p d codes out wait →
+    {bang : Bool} → bang ≡ bangs
     p.token.kind →
     Banged text p p 0 bang
 banged-none {text} {p} a e = record { passed = bangs-none text (place p) a.standing.token; test = e }
 
 -- a guard in brackets
-module _ {text : List ℕ} {p : Place} {d : ℕ} {codes : List Code} {out : List ℕ} {wait : Stack} (a : Asks text p d codes out wait) (k : p.token.kind ≡ kind.Opening) where
+module _ {text : List ℕ} {p : Place} {d : ℕ} {codes : List Code} {out : List ℕ} {wait : Stack} (a : Asks text p d codes out wait)
+    (k : p.token.kind ≡ kind.Opening) where
   pub too-deep : {x : Refused} {p' : Place} → bracket_ceiling ≤ d → RefusedAt ManyBrackets p.token.start p p' →
       Says (plain (operands_at d)) d 0 text p codes out wait (Err x) p' codes out wait
   too-deep l h =

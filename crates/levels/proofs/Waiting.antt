@@ -74,7 +74,8 @@ unfolding held
 rising-first {p₀ = p₀} {codes₀ = codes₀} {out₀ = out₀} f e =
     record { k = 0; q = p₀; qcodes = codes₀; qout = out₀; here = omega (arith, e); waits = none; last = f }
 
-module _ {s : Sign} {d : ℕ} {text : List ℕ} {p₀ : Place} {codes₀ : List Code} {out₀ : List ℕ} {b l : ℕ} {p : Place} {codes : List Code} {out : List ℕ} {wait : Stack}
+module _ {s : Sign} {d : ℕ} {text : List ℕ} {p₀ : Place} {codes₀ : List Code} {out₀ : List ℕ} {b l : ℕ} {p : Place} {codes : List Code} {out : List ℕ}
+    {wait : Stack}
     (r : Rising s d text p₀ codes₀ out₀ b l p codes out wait) where
   -- the operand behind the last sign, as the first of a chain
   pub rising-opened : Sofar s d text r.q r.qcodes r.qout l p codes out
@@ -154,7 +155,8 @@ last_of : {s : Sign} {d : ℕ} {text : List ℕ} {p₀ : Place} {codes₀ : List
     Last s d text p₀ codes₀ out₀ n ls p codes out
 last_of (more {ks} {q} {qcodes} {qout} {k} {p₁} w f g) = record { q = q; qcodes = qcodes; qout = qout; p₁ = p₁; waits = w; first = f; pass = g }
 
-module _ {s : Sign} {d : ℕ} {text : List ℕ} {p₀ : Place} {codes₀ : List Code} {out₀ : List ℕ} {b j : ℕ} {p : Place} {codes : List Code} {out : List ℕ} {wait : Stack}
+module _ {s : Sign} {d : ℕ} {text : List ℕ} {p₀ : Place} {codes₀ : List Code} {out₀ : List ℕ} {b j : ℕ} {p : Place} {codes : List Code} {out : List ℕ}
+    {wait : Stack}
     (r : Falling s d text p₀ codes₀ out₀ b j p codes out wait) where
   module _ (h : b < wait.count) where
     one_less : r.k ≡ suc (r.k - 1)

@@ -7,6 +7,7 @@ use Rattle.guard_check.proofs.answer.by_tables.Goals as goal
 
 pub returns : goal.returns
 returns c =
-    fully-found c.args.formula.now.triplets.now c.args.formula.now.count c.args.formula.now.flags c.args.formula.now.root (c.requires) c.search-found.result c.verdict_of.result c.search-found.ensures
+    fully-found c.args.formula.now.triplets.now c.args.formula.now.count c.args.formula.now.flags c.args.formula.now.root (c.requires)
+    c.search-found.result c.verdict_of.result c.search-found.ensures
     refl
     c.verdict_of.ensures

@@ -14,5 +14,6 @@ returns-in-3 c =
 
 pub returns-in-5 : goal.returns-in-5
 returns-in-5 c =
-    c.flipped-in-5.ensures ∙ signed_odd c.args.self.y 1 refl ∙ sym (ap (λ (k : ℕ). literal_at c.args.self.x c.args.self.y c.args.self.z (get_or z_names k own-z))
+    c.flipped-in-5.ensures ∙ signed_odd c.args.self.y 1 refl
+    ∙ sym (ap (λ (k : ℕ). literal_at c.args.self.x c.args.self.y c.args.self.z (get_or z_names k own-z))
     c.in-5.is)
