@@ -33,6 +33,7 @@ const MOST_TO_A_ROW: usize = MOST_WORDS * VARIABLES;
 const UNREAD: u64 = 72623859790382856;
 
 // All states at once, in rows of 2^MORE words, which hold the states of so many more flags than a word; WORDS are those of all rows.
+#[inline(never)]
 fn at_once<const MORE: usize, const WORDS: usize>(
     formula: &Formula,
     start: u64,
@@ -58,7 +59,9 @@ fn at_once<const MORE: usize, const WORDS: usize>(
     )
 }
 
-// More flags: 32 words to a row, so that the last flags, as many as these hold, need no walk.
+// More flags: 32 words to a row, so that the last flags, as many as these hold, need no walk. Its rows are most of the stack: a search
+// that needs fewer is not to pay for them.
+#[inline(never)]
 fn wide(formula: &Formula, start: u64, out: &mut [u32]) -> Found
     requires { start ≤ 2 ^ formula.now.flags }
     ensures { Writes out.old 0 (false_from (value_of formula.now) start (2 ^ formula.now.flags - start)) result out.new }
