@@ -7,6 +7,7 @@ use Rattle.saturation.specs.Answer.{Checked}
 use Rattle.saturation.specs.declared.verdict.Verdict.{Verdict}
 use Rattle.notation.specs.declared.refusal.Reason.TheVariants.{LongText, HighDepth}
 use Rattle.notation.specs.declared.refusal.Refusal.{Refusal}
+use Rattle.notation.specs.Refusals.{fault}
 
 -- the depth of a check
 abbrev pub depth_ceiling : ℕ
@@ -25,7 +26,7 @@ Checking = Result Verdict Refusal
 
 -- a refusal is passed on, and a guard is checked
 abbrev pub ReadingSays : Reading → ℕ → Checking → Type 0
-ReadingSays (refusal k p) depth r = r ≡ Err (record { reason = k; place = p })
+ReadingSays (refusal k p) depth r = r ≡ Err (fault k p)
 ReadingSays (guard g u) depth r = IsOkAnd r (Checked (length u) g depth)
 
 -- what check answers

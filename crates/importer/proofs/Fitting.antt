@@ -18,11 +18,11 @@ use Rattle.notation.specs.Triplets.{literal, literal_ceiling, triplets}
 use Rattle.notation.specs.Grammar.{tree}
 use Rattle.notation.specs.Reading.{Reading, refusal, guard, judged, reading}
 use Rattle.std.specs.Prelude.{Ok, Err}
-use Rattle.reading.specs.Service.{Parsed, Named, guard_with, refused_with, read_answer, unnamed, name_in, name_answer}
+use Rattle.reading.specs.Service.{Parsed, Named, guard_with, read_answer, name_in, name_answer}
 use Rattle.reading.specs.clauses.Parsing.{last_refusal}
 use Rattle.ground.proofs.Cases.{either}
 use Rattle.notation.proofs.Accepted.{reading-accepted, reading-shape}
-use Rattle.notation.specs.Refusals.{number_of}
+use Rattle.notation.specs.Refusals.{fault, number_of}
 use Rattle.notation.specs.declared.refusal.Reason.{Reason}
 use Rattle.notation.specs.declared.refusal.Reason.TheVariants.{LongText, HighDepth, NoState, SmallRoom, NoFlag}
 use Rattle.truth.specs.Value.{value}
@@ -167,14 +167,14 @@ unfolding read_answer
 answer-fits (refusal k p) room f = refusal-fits k p f
 answer-fits (guard g u) room f =
     choose-has (λ (x : Parsed). AnswerFits GuardFits x) (leb (3 * connectives g) room) (guard_with (length u) (connectives g) (literal 0 g))
-    (refused_with SmallRoom 0)
+    (Err (fault SmallRoom 0))
     (λ h. record { flags = f.flags; count = f.count; root = f.root }) (λ h. refusal-fits SmallRoom 0 (omega arith, omega arith))
 
 pub read_fits : (text : List ℕ) (room : ℕ) (r : Parsed) → r ≡ read_answer (reading text) room → AnswerFits GuardFits r
 read_fits text room r e = subst (λ (x : Parsed). AnswerFits GuardFits x) (sym e) (answer-fits (reading text) room (reading-fits text))
 
 -- ---- name
-no-flag-fits : AnswerFits StretchFits (unnamed NoFlag 0)
+no-flag-fits : AnswerFits StretchFits (Err (fault NoFlag 0))
 no-flag-fits = refusal-fits NoFlag 0 (omega arith, omega arith)
 
 name-in-fits : (u : List Flag) (i : ℕ) → FlagsFit u → AnswerFits StretchFits (name_in u i)

@@ -4,6 +4,7 @@ use Rattle.ground.specs.Choice.{choose}
 use Rattle.notation.specs.Reading.{Reading, refusal, guard, reading}
 use Rattle.notation.specs.declared.refusal.Reason.TheVariants.{NoState}
 use Rattle.notation.specs.declared.refusal.Refusal.{Refusal}
+use Rattle.notation.specs.Refusals.{fault}
 use Rattle.gaps.specs.declared.writing.Found.{Found}
 use Rattle.gaps.specs.Gaps.{gaps_from}
 use Rattle.gaps.specs.Writing.{found, placed}
@@ -14,9 +15,9 @@ Listing = Result Found Refusal
 
 -- a refusal of reading is answered; then a start that is no state is refused 9; else the gaps from the start on are written, as far as there is room
 unfoldable pub listed : Reading → ℕ → ℕ → Listing
-listed (refusal reason p) start room = Err (record { reason = reason; place = p })
+listed (refusal reason p) start room = Err (fault reason p)
 listed (guard g codes) start room =
-    choose (ltb start (2 ^ length codes)) (Ok (found (gaps_from (length codes) g start) room)) (Err (record { reason = NoState; place = 0 }))
+    choose (ltb start (2 ^ length codes)) (Ok (found (gaps_from (length codes) g start) room)) (Err (fault NoState 0))
 
 -- the slice holds the gaps from the start on, as many as it has room for; a refusal leaves it alone
 unfoldable pub filled : Reading → ℕ → List ℕ → List ℕ

@@ -1,27 +1,16 @@
 -- A refusal, as definitions make it, and the numbers of the reasons.
 use Rattle.std.specs.Prelude.{ℕ}
 use Rattle.notation.specs.declared.refusal.Reason.{Reason}
-use Rattle.notation.specs.declared.refusal.Reason.TheVariants as reason
+use Rattle.notation.specs.declared.refusal.Reason.TheVariants.{LongText, HighDepth, StrayByte, LongCode, OutOfPlace, ManyBrackets, ManyFlags}
+use Rattle.notation.specs.declared.refusal.Reason.TheVariants.{ManyConnectives, NoState, SmallRoom, NoFlag, MalformedLine, WrongField}
+use Rattle.notation.specs.declared.refusal.Reason.TheVariants.{WrongVariants, WrongId, NoGap}
 use Rattle.notation.specs.declared.refusal.Refusal.{Refusal}
 
 -- the number of a reason in the outline's table
 abbrev pub number_of : Reason → ℕ
-number_of reason.LongText = 1
-number_of reason.HighDepth = 2
-number_of reason.StrayByte = 3
-number_of reason.LongCode = 4
-number_of reason.OutOfPlace = 5
-number_of reason.ManyBrackets = 6
-number_of reason.ManyFlags = 7
-number_of reason.ManyConnectives = 8
-number_of reason.NoState = 9
-number_of reason.SmallRoom = 10
-number_of reason.NoFlag = 11
-number_of reason.MalformedLine = 12
-number_of reason.WrongField = 13
-number_of reason.WrongVariants = 14
-number_of reason.WrongId = 15
-number_of reason.NoGap = 16
+number_of r = elim r [ LongText ↦ 1 | HighDepth ↦ 2 | StrayByte ↦ 3 | LongCode ↦ 4 | OutOfPlace ↦ 5 | ManyBrackets ↦ 6 | ManyFlags ↦ 7 |
+    ManyConnectives ↦ 8 | NoState ↦ 9 | SmallRoom ↦ 10 | NoFlag ↦ 11 | MalformedLine ↦ 12 | WrongField ↦ 13 | WrongVariants ↦ 14 |
+    WrongId ↦ 15 | NoGap ↦ 16 ]
 
 -- the refusal for this reason at this place
 abbrev pub fault : Reason → ℕ → Refusal

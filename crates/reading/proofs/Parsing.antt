@@ -30,7 +30,8 @@ use Rattle.notation.specs.declared.refusal.Refused.{Refused}
 use Rattle.operands.specs.clauses.Steps.{joins, place}
 use Rattle.operands.specs.declared.waiting.Stack.{Stack}
 use Rattle.levels.specs.clauses.Levels.{plain, operands_at, below_of, part, FoundPart, Says}
-use Rattle.reading.specs.Service.{Parsed, refused_with, guard_with}
+use Rattle.reading.specs.Service.{Parsed, guard_with}
+use Rattle.notation.specs.Refusals.{fault}
 use Rattle.reading.specs.clauses.Parsing.{ended_as, ParseSays}
 use Rattle.std.specs.Prelude.{Err}
 use Rattle.notation.proofs.Coding.{flags-length}
@@ -100,7 +101,7 @@ module _ (text : List ℕ) (from : ℕ) (u₀ : List Flag) (h : length text - fr
   unfolding reading_from judged
   walk-accepts u m e = rw (le-leb (length text - from) text_ceiling h, e)
 
-  says-refusal : (k : Reason) (p : ℕ) → walk operand 0 u₀ 0 (tokens_at text from) ≡ refused k p → (r : Parsed) → r ≡ refused_with k p
+  says-refusal : (k : Reason) (p : ℕ) → walk operand 0 u₀ 0 (tokens_at text from) ≡ refused k p → (r : Parsed) → r ≡ Err (fault k p)
       → (codes : List Code) (out : List ℕ) →
       ParseSays text (reading_from text from u₀) r codes out
   says-refusal k p e r f codes out = subst (λ (x : Reading). ParseSays text x r codes out) (sym (walk-refuses k p e)) f
@@ -155,7 +156,7 @@ module _ {text : List ℕ} {from n : ℕ} {p p₁ : Place} {s : Result Unit Refu
 
         -- the text ends after the guard, or does not
         decided : (x : Bool) → ends p₂.token.kind ≡ x → (r : Parsed) →
-            r ≡ choose x (guard_with p₂.flags p₂.count l) (refused_with OutOfPlace p₂.token.start) → ParseSays text
+            r ≡ choose x (guard_with p₂.flags p₂.count l) (Err (fault OutOfPlace p₂.token.start)) → ParseSays text
             (reading_from text from (flags_in text codes n)) r codes₂ out₂
         unfolding u f
         decided true x r q =

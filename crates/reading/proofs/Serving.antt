@@ -19,7 +19,8 @@ use Rattle.notation.specs.clauses.Cut.{part}
 use Rattle.notation.specs.clauses.Codes.{start_of, end_of, flag_at, flags_in, InText}
 use Rattle.notation.specs.declared.codes.Code.{Code}
 use Rattle.std.specs.Prelude.{Ok, Err}
-use Rattle.reading.specs.Service.{Parsed, Named, part_with, refused_with, guard_with, read_answer, room_after, ReadSays, unnamed, name_in, name_answer, part_of}
+use Rattle.reading.specs.Service.{Parsed, Named, part_with, guard_with, read_answer, room_after, ReadSays, name_in, name_answer, part_of}
+use Rattle.notation.specs.Refusals.{fault}
 use Rattle.reading.specs.clauses.Parsing.{GuardRead, ParseSays, Spans, named_in}
 use Rattle.notation.specs.declared.refusal.Reason.TheVariants.{SmallRoom, NoFlag}
 use Rattle.notation.specs.declared.refusal.Refusal.{Refusal}
@@ -52,7 +53,7 @@ guard-found text (guard g u) r codes out s x e =
 pub refusal-found : (text : List ℕ) (R : Reading) (r : Parsed) (codes : List Code) (out : List ℕ) → ParseSays text R r codes out → (f : Refusal) → r
     ≡ Err f → R ≡ refusal f.reason f.place
 refusal-found text (refusal k p) r codes out s f e =
-    let a : r ≡ refused_with k p = s in
+    let a : r ≡ Err (fault k p) = s in
     let b : f ≡ record { reason = k; place = p } = cc in
     rw b
 refusal-found text (guard g u) r codes out s f e =
@@ -82,7 +83,7 @@ module _ (text room : List ℕ) (x : counted.Guard) (codes : List Code) (out : L
   pub length-few : x.count ≤ connective_ceiling
   length-few = rw count-is f.read.short
 
-  pub read_small : length room < 3 * x.count → ReadSays text room (refused_with SmallRoom 0) room
+  pub read_small : length room < 3 * x.count → ReadSays text room (Err (fault SmallRoom 0)) room
   unfolding read_answer room_after
   read_small h =
       let l : leb (3 * connectives f.tree) (length room) ≡ false = lt-leb (3 * connectives f.tree) (length room) (rw count-is at h) in
@@ -105,12 +106,12 @@ spans text x codes out f =
     rw k (record { room = f.read.in_text.room; starts = f.read.in_text.starts })
 
 -- no flag has the number 0, or one over their number
-name-zero : (u : List Flag) → name_in u 0 ≡ unnamed NoFlag 0
+name-zero : (u : List Flag) → name_in u 0 ≡ Err (fault NoFlag 0)
 unfolding name_in
 name-zero [] = refl
 name-zero (f ∷ u) = refl
 
-name-over : (u : List Flag) (i : ℕ) → length u < i → name_in u i ≡ unnamed NoFlag 0
+name-over : (u : List Flag) (i : ℕ) → length u < i → name_in u i ≡ Err (fault NoFlag 0)
 unfolding name_in
 name-over [] i h = refl
 name-over (f ∷ u) zero h = refl
@@ -136,7 +137,7 @@ name-same text codes k (suc j) t =
     here : Named
     here = part_with (start_of codes j) (end_of codes j - start_of codes j)
 
-    by-test : (b : Bool) → leb (suc j) k ≡ b → choose b here (unnamed NoFlag 0) ≡ name_in (flags_in text codes k) (suc j)
+    by-test : (b : Bool) → leb (suc j) k ≡ b → choose b here (Err (fault NoFlag 0)) ≡ name_in (flags_in text codes k) (suc j)
     by-test true e =
         let h : j < k = leb-true (suc j) k e in
         let r = flags-split text codes j k h in

@@ -9,7 +9,7 @@ use Rattle.notation.specs.Reading.{Reading, refusal, reading}
 use Rattle.notation.specs.declared.refusal.Refusal.{Refusal}
 use Rattle.ground.proofs.Cases.{lt-or-ge}
 use Rattle.std.specs.Prelude.{Ok, Err}
-use Rattle.reading.specs.Service.{Parsed, ReadSays, read_answer, room_after, refused_with, name_answer, unnamed}
+use Rattle.reading.specs.Service.{Parsed, ReadSays, read_answer, room_after, name_answer}
 use Rattle.reading.proofs.Parsing.{whole-too-long}
 use Rattle.evaluate.proofs.Evaluated.{evaluates-refusal}
 use Rattle.list.proofs.Listed.{lists-refusal}
@@ -34,12 +34,12 @@ module _ (text : List ℕ) (f : Refusal) (says : reading text ≡ refusal f.reas
       ⊎_elim (λ (h : text_ceiling < length text). check-long h depth) (λ (h : length text ≤ text_ceiling). refused-too text depth h d f says)
       (lt-or-ge text_ceiling (length text))
 
-  read-refused : (room : List ℕ) (r : Parsed) (after : List ℕ) → ReadSays text room r after → (r ≡ refused_with f.reason f.place)
+  read-refused : (room : List ℕ) (r : Parsed) (after : List ℕ) → ReadSays text room r after → (r ≡ Err f)
       × (after ≡ room)
   unfolding read_answer room_after
   read-refused room r after h = (rw says at h.answer, rw says at h.left)
 
-  name-refused : (i : ℕ) → name_answer (reading text) i ≡ unnamed f.reason f.place
+  name-refused : (i : ℕ) → name_answer (reading text) i ≡ Err f
   unfolding name_answer
   name-refused i = rw says
 

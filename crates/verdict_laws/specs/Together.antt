@@ -5,7 +5,7 @@ use Rattle.notation.specs.Walk.{Flag}
 use Rattle.notation.specs.Guard.{Guard}
 use Rattle.notation.specs.Reading.{guard, reading}
 use Rattle.notation.specs.declared.refusal.Refusal.{Refusal}
-use Rattle.reading.specs.Service.{Parsed, ReadSays, refused_with, name_answer, unnamed}
+use Rattle.reading.specs.Service.{Parsed, ReadSays, name_answer}
 use Rattle.evaluate.specs.Evaluated.{evaluated}
 use Rattle.gaps.specs.declared.writing.Found.TheVariants.{Done, More}
 use Rattle.list.specs.Listed.{Listing, Lists}
@@ -62,8 +62,8 @@ pub record NextTogether (text : List ℕ) (s : ℕ) : Type 0 where
 
 -- reading refused the text with f: each service answers f, and a lent slice is unchanged
 pub record RefusedTogether (text : List ℕ) (f : Refusal) : Type 0 where
-  pub read : (room : List ℕ) (r : Parsed) (after : List ℕ) → ReadSays text room r after → (r ≡ refused_with f.reason f.place) × (after ≡ room)
-  pub name : (i : ℕ) → name_answer (reading text) i ≡ unnamed f.reason f.place
+  pub read : (room : List ℕ) (r : Parsed) (after : List ℕ) → ReadSays text room r after → (r ≡ Err f) × (after ≡ room)
+  pub name : (i : ℕ) → name_answer (reading text) i ≡ Err f
   pub evaluate : (state : ℕ) → evaluated (reading text) state ≡ Err f
   pub list : (start : ℕ) → ListsSo text start (λ out answer after. (answer ≡ Err f) × (after ≡ out))
   -- check answers f, and nothing else, at each depth up to its ceiling; at every depth where the text is too long, since 1 stands before 2

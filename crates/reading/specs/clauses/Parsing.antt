@@ -11,7 +11,8 @@ use Rattle.notation.specs.clauses.Codes.{codes_room, start_of, end_of, flags_in,
 use Rattle.notation.specs.declared.codes.Code.{Code}
 use Rattle.notation.specs.declared.refusal.Reason.TheVariants.{OutOfPlace, NoFlag}
 use Rattle.operands.specs.clauses.Steps.{Part}
-use Rattle.reading.specs.Service.{Parsed, Named, guard_with, refused_with, part_with, unnamed}
+use Rattle.reading.specs.Service.{Parsed, Named, guard_with, part_with}
+use Rattle.notation.specs.Refusals.{fault}
 
 -- the last number of the table of refusals
 abbrev pub last_refusal : ℕ
@@ -30,12 +31,12 @@ pub record GuardRead (text : List ℕ) (g : Guard) (u : List Flag) (r : Parsed) 
 
 -- what parse answers, and what the lent tables then hold
 abbrev pub ParseSays : List ℕ → Reading → Parsed → List Code → List ℕ → Type 0
-ParseSays text (refusal k p) r codes out = r ≡ refused_with k p
+ParseSays text (refusal k p) r codes out = r ≡ Err (fault k p)
 ParseSays text (guard g u) r codes out = GuardRead text g u r codes out
 
 -- a guard that the text ends after
 abbrev pub ended_as : Part → Parsed
-ended_as p = choose (ends p.at.token.kind) (guard_with p.at.flags p.at.count p.literal) (refused_with OutOfPlace p.at.token.start)
+ended_as p = choose (ends p.at.token.kind) (guard_with p.at.flags p.at.count p.literal) (Err (fault OutOfPlace p.at.token.start))
 
 -- the first k codes of the table end no earlier than they start
 pub record Spans (codes : List Code) (k : ℕ) : Type 0 where
@@ -45,4 +46,4 @@ pub record Spans (codes : List Code) (k : ℕ) : Type 0 where
 -- the part that code i of the table is, i counted from 1
 abbrev pub named_in : List Code → ℕ → ℕ → Named
 named_in codes k i = choose (ltb 0 i) (choose (leb i k) (part_with (start_of codes (i - 1)) (end_of codes (i - 1) - start_of codes (i - 1)))
-    (unnamed NoFlag 0)) (unnamed NoFlag 0)
+    (Err (fault NoFlag 0))) (Err (fault NoFlag 0))

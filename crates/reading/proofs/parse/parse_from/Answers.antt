@@ -6,14 +6,14 @@ use Rattle.notation.specs.Ceilings.{text_ceiling}
 use Rattle.notation.specs.clauses.Codes.{flags_in}
 use Rattle.notation.specs.Reading.{Reading}
 use Rattle.notation.specs.declared.refusal.Reason.TheVariants.{LongText}
-use Rattle.reading.specs.Service.{refused_with}
+use Rattle.notation.specs.Refusals.{fault}
 use Rattle.reading.specs.clauses.Parsing.{ParseSays}
 use Rattle.reading.proofs.Parsing.{too_long, faulty-first, refused-first, parse-says}
 use Rattle.reading.proofs.parse.parse_from.Goals as goal
 
 pub returns-then-text-from-gt-TEXT : goal.returns-then-text-from-gt-TEXT
 returns-then-text-from-gt-TEXT c =
-    subst (λ (x : Reading). ParseSays c.args.text.now x (refused_with LongText (c.args.from + text_ceiling)) c.args.codes.now c.args.out.now)
+    subst (λ (x : Reading). ParseSays c.args.text.now x (Err (fault LongText (c.args.from + text_ceiling))) c.args.codes.now c.args.out.now)
     (sym (too_long c.args.text.now c.args.from (flags_in c.args.text.now c.args.codes.now c.args.flags) c.if-text-from-gt-TEXT.true)) refl
 
 pub returns-in_default : goal.returns-in_default
