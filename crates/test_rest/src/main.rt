@@ -8,18 +8,17 @@ mod naive;
 mod report;
 
 use compare::{ORDERS, disagreements};
-use std::io;
 
 // The lists that are tried.
 const LISTS: usize = 2000;
 
-fn main(rt: HostRuntime) -> io::Result<()> {
+fn main(rt: HostRuntime) {
     let mut wrong = 0;
     for seed in 0..LISTS {
-        wrong += disagreements(&rt, seed, wrong > 0)?;
+        wrong += disagreements(&rt, seed, wrong > 0);
     }
-    println!(rt;
+    let _ = println!(rt;
         "{} comparisons of rest with a naive reference, {wrong} disagreements",
         ORDERS * LISTS
-    )
+    );
 }
