@@ -7,11 +7,20 @@ pub mod triplet;
 ghost use Rattle.std.specs.Prelude.{◌≡◌, suc, ◌+◌, ◌*◌, ◌-◌, ◌≤◌, ◌<◌, length};
 ghost use Rattle.notation.specs.Ceilings.{flag_ceiling, connective_ceiling};
 ghost use Rattle.notation.specs.Triplets.{triplet_variable};
+ghost use Rattle.truth.specs.clauses.Computed.{Triplets};
 ghost use Rattle.fixing.specs.clauses.Fixing.{StartedBy, Fixed};
 
 use crate::fold::fold;
 use crate::triplet::constant;
 use truth::formula::Formula;
+
+// What is left of a formula: so many triplets, over so many flags, and what became of the root.
+#[derive(Clone, Copy)]
+pub struct Left {
+    pub count: usize,
+    pub root: u16,
+    pub flags: usize,
+}
 
 // What becomes of true and of the flags: the first is b, each further one is one less.
 fn start(to: &mut [u16], n: usize, b: bool)
@@ -28,13 +37,14 @@ fn start(to: &mut [u16], n: usize, b: bool)
     }
 }
 
-// Fixes the first flag of a formula as b: writes the triplets that are left, over one flag fewer, and answers them with what became of the root.
-pub fn fix_first<'a>(formula: &Formula, b: bool, to: &mut [u16], ys: &'a mut [u16]) -> Formula<'a>
+// Fixes the first flag of a formula as b: writes the triplets that are left, over one flag fewer, and answers what is left.
+pub fn fix_first(formula: &Formula, b: bool, to: &mut [u16], ys: &mut [u16]) -> Left
     requires some_flag { 0 < formula.now.flags }
     requires long { (2 * triplet_variable (suc connective_ceiling) ≤ length to.old) × (3 * connective_ceiling ≤ length ys.old) }
     ensures flags { result.flags ≡ formula.now.flags - 1 }
+    ensures proper { Triplets result.flags ys.new result.count result.root }
     ensures fixed { Fixed (formula.now.flags - 1) b formula.now.triplets.now formula.now.count formula.now.root
-        result.triplets.now result.count result.root }
+        ys.new result.count result.root }
 {
     let less = formula.flags - 1;
     start(to, less, b);

@@ -3,9 +3,11 @@ ghost use Rattle.std.specs.Prelude.{◌≡◌, suc, ◌+◌, ◌*◌, ◌^◌, �
 ghost use Rattle.ground.specs.Choice.{choose};
 ghost use Rattle.notation.specs.Ceilings.{flag_ceiling, connective_ceiling};
 ghost use Rattle.notation.specs.Triplets.{triplet_variable};
+ghost use Rattle.truth.specs.clauses.Computed.{Triplets};
 ghost use Rattle.fixing.specs.clauses.Fixing.{PutAt};
 ghost use Rattle.freeing.specs.clauses.Some.{flag_literal, Begun, FixedSome};
 
+use fixing::Left;
 use fixing::fold::fold;
 use fixing::triplet::{constant, put};
 use truth::formula::Formula;
@@ -51,17 +53,12 @@ fn start_some(to: &mut [u16], n: usize, keep: u64, state: u64) -> usize
     start_flags(to, n, keep, state)
 }
 
-// Fixes the flags of `keep` as in the state: writes the triplets that are left, over the free flags, and answers them with what became of the root.
-pub fn fix_some<'a>(
-    formula: &Formula,
-    keep: u64,
-    state: u64,
-    to: &mut [u16],
-    ys: &'a mut [u16],
-) -> Formula<'a>
+// Fixes the flags of `keep` as in the state: writes the triplets that are left, over the free flags, and answers what is left.
+pub fn fix_some(formula: &Formula, keep: u64, state: u64, to: &mut [u16], ys: &mut [u16]) -> Left
     requires { (2 * triplet_variable (suc connective_ceiling) ≤ length to.old) × (3 * connective_ceiling ≤ length ys.old) }
-    ensures { FixedSome formula.now.flags keep state formula.now.triplets.now formula.now.count formula.now.root
-        result.triplets.now result.flags result.count result.root }
+    ensures proper { Triplets result.flags ys.new result.count result.root }
+    ensures fixed { FixedSome formula.now.flags keep state formula.now.triplets.now formula.now.count formula.now.root
+        ys.new result.flags result.count result.root }
 {
     let free = start_some(to, formula.flags, keep, state);
     fold(formula, free, to, ys)

@@ -53,7 +53,13 @@ fn side(
     if left.root == 0 {
         return Found::Done(place.from);
     }
-    walk(&left, low, rows, width, to, place, out)
+    let rest = Formula {
+        triplets: &ys,
+        count: left.count,
+        root: left.root,
+        flags: left.flags,
+    };
+    walk(&rest, low, rows, width, to, place, out)
 }
 
 // Both sides of the first flag, the false one first; where few flags are left, all states at once.

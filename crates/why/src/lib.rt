@@ -34,7 +34,13 @@ fn forced(formula: &Formula, keep: u64, state: u64) -> bool
 {
     let mut to = [258u16; LITERALS];
     let mut ys = [258u16; TRIPLETS_ROOM];
-    let freed = fix_some(formula, keep, state, &mut to, &mut ys);
+    let left = fix_some(formula, keep, state, &mut to, &mut ys);
+    let freed = Formula {
+        triplets: &ys,
+        count: left.count,
+        root: left.root,
+        flags: left.flags,
+    };
     let turned = freed.negated();
     let mut room = [0u32; 0];
     let found = search(&turned, 0, &mut room);
