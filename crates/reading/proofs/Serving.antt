@@ -18,7 +18,7 @@ use Rattle.notation.specs.Reading.{Reading, refusal, guard, reading}
 use Rattle.notation.specs.clauses.Cut.{part}
 use Rattle.notation.specs.clauses.Codes.{start_of, end_of, flag_at, flags_in, InText}
 use Rattle.notation.specs.declared.codes.Code.{Code}
-use Rattle.std.specs.Prelude.{Ok, Err}
+use Rattle.std.specs.Prelude.{Result, Ok, Err}
 use Rattle.reading.specs.Service.{Parsed, Named, part_with, guard_with, read_answer, room_after, ReadSays, name_in, name_answer, part_of}
 use Rattle.notation.specs.Refusals.{fault}
 use Rattle.reading.specs.clauses.Parsing.{GuardRead, ParseSays, Spans, named_in}
@@ -162,18 +162,18 @@ name-found text i x codes out f =
     rw (k, f.says) (name-same text codes (length f.flags) i f.read.in_text ∙ ap (λ (u : List Flag). name_in u i) f.read.flags)
 
 -- a part of the text, by its bytes; none where name refused, or where it lies outside
-pub part_in : (text : List ℕ) (n : Named) (p : Stretch) → n ≡ Ok p → p.start ≤ length text → p.len ≤ length text - p.start
+pub part_in : {E : Type 0} (text : List ℕ) (n : Result Stretch E) (p : Stretch) → n ≡ Ok p → p.start ≤ length text → p.len ≤ length text - p.start
     → take (p.start + p.len - p.start) (drop p.start text) ≡ part_of text n
 unfolding part_of
 part_in text n p e a b =
     let m : p.start + p.len - p.start ≡ p.len = omega arith in
     rw (e, m, le-leb (p.start + p.len) (length text) (omega arith))
 
-pub part-refused : (text : List ℕ) (n : Named) (f : Refusal) → n ≡ Err f → [] ≡ part_of text n
+pub part-refused : {E : Type 0} (text : List ℕ) (n : Result Stretch E) (f : E) → n ≡ Err f → [] ≡ part_of text n
 unfolding part_of
 part-refused text n f e = rw e
 
-pub part_out : (text : List ℕ) (n : Named) (p : Stretch) → n ≡ Ok p → length text < p.start + p.len → [] ≡ part_of text n
+pub part_out : {E : Type 0} (text : List ℕ) (n : Result Stretch E) (p : Stretch) → n ≡ Ok p → length text < p.start + p.len → [] ≡ part_of text n
 unfolding part_of
 part_out text n p e h = rw (e, lt-leb (p.start + p.len) (length text) h)
 

@@ -54,7 +54,7 @@ unfoldable pub name_answer : Reading → ℕ → Named
 name_answer (refusal k p) i = Err (fault k p)
 name_answer (guard g u) i = name_in u i
 
--- the bytes of a part of the text; a refusal hands back none
-unfoldable pub part_of : List ℕ → Named → List ℕ
+-- the bytes of a part of the text; a refusal, whatever it says, hands back none
+unfoldable pub part_of : {E : Type 0} → List ℕ → Result Stretch E → List ℕ
 part_of text (Ok p) = choose (leb (p.start + p.len) (length text)) (take p.len (drop p.start text)) []
 part_of text (Err f) = []

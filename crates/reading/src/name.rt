@@ -52,7 +52,7 @@ pub fn name(text: &[u8], i: u64) -> Result<Stretch, Refusal>
 }
 
 // The part itself, out of the very text lent; empty where name refused.
-pub fn part(text: &[u8], named: Result<Stretch, Refusal>) -> &[u8]
+pub fn part<E: Drop>(text: &[u8], named: Result<Stretch, E>) -> &[u8]
     ensures { result.now ≡ part_of text.now named }
 {
     let Ok(Stretch { start, len }) = named else {

@@ -4,17 +4,17 @@ use Rattle.reading.proofs.Serving.{part_in, part-refused, part_out}
 use Rattle.reading.proofs.name.part.Goals as goal
 
 pub returns-in_default : goal.returns-in_default
-returns-in_default c =
+returns-in_default g c =
     part-refused c.args.text.now c.args.named _ c.in_default.is
 
 pub returns-then-text-start : goal.returns-then-text-start
-returns-then-text-start c =
+returns-then-text-start g c =
     part_out c.args.text.now c.args.named c.in-Ok.field-0 c.in-Ok.is (omega arith)
 
 pub returns-then-text-start-2 : goal.returns-then-text-start-2
-returns-then-text-start-2 c =
+returns-then-text-start-2 g c =
     part_out c.args.text.now c.args.named c.in-Ok.field-0 c.in-Ok.is (omega arith)
 
 pub returns : goal.returns
-returns c =
+returns g c =
     part_in c.args.text.now c.args.named c.in-Ok.field-0 c.in-Ok.is (omega arith) (omega arith)
