@@ -5,7 +5,7 @@
 pub struct GuardSpan {
     pub off: usize,
     pub count: usize,
-    pub root: u16,
+    pub root: usize,
     pub text_start: usize,
     pub text_end: usize,
 }

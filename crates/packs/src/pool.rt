@@ -36,7 +36,7 @@ pub fn note(spans: &mut [GuardSpan; GUARDS], k: usize, total: usize, count: usiz
     let span = &mut spans[k];
     span.off = total;
     span.count = count;
-    span.root = root;
+    span.root = root as usize;
 }
 
 // Notes where the text of variant k stands in the pack.

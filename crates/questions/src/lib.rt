@@ -35,7 +35,7 @@ fn lay_guard(
 {
     let span = spans[k];
     let count = span.count;
-    let root = lay(pool, span.off, count, span.root, out, before);
+    let root = lay(pool, span.off, count, span.root as u16, out, before);
     Built {
         count: before + count,
         root,
