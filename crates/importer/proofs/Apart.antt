@@ -9,7 +9,7 @@ use Rattle.notation.specs.declared.refusal.Reason.{Reason}
 use Rattle.notation.specs.declared.refusal.Refusal.{Refusal}
 use Rattle.saturation.specs.declared.verdict.Verdict.{Verdict}
 use Rattle.saturation.specs.declared.verdict.Verdict.TheVariants.{Covered, Gap, Undecided}
-use Rattle.notation.specs.Refusals.{number_of}
+use Rattle.notation.specs.Numbers.{number_of}
 use Rattle.notation.proofs.Reasons.{number-apart}
 use Rattle.importer.specs.Packed.{packed, packed_answer, packed_refusal, packed_verdict}
 use Rattle.reading.specs.clauses.Parsing.{last_refusal}

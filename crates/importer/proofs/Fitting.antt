@@ -22,7 +22,8 @@ use Rattle.reading.specs.Service.{Parsed, Named, guard_with, read_answer, name_i
 use Rattle.reading.specs.clauses.Parsing.{last_refusal}
 use Rattle.ground.proofs.Cases.{either}
 use Rattle.notation.proofs.Accepted.{reading-accepted, reading-shape}
-use Rattle.notation.specs.Refusals.{fault, number_of}
+use Rattle.notation.specs.Numbers.{number_of}
+use Rattle.notation.specs.Refusals.{fault}
 use Rattle.notation.specs.declared.refusal.Reason.{Reason}
 use Rattle.notation.specs.declared.refusal.Reason.TheVariants.{LongText, HighDepth, NoState, SmallRoom, NoFlag}
 use Rattle.truth.specs.Value.{value}

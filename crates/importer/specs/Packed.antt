@@ -1,7 +1,7 @@
 -- How an answer is one number: kind x 2^32 + payload.
 use Rattle.std.specs.Prelude.{ℕ, ◌+◌, ◌*◌, ◌^◌, Bool, Result, Ok, Err}
 use Rattle.ground.specs.Choice.{choose}
-use Rattle.notation.specs.Refusals.{number_of}
+use Rattle.notation.specs.Numbers.{number_of}
 use Rattle.notation.specs.declared.refusal.Refusal.{Refusal}
 use Rattle.reading.specs.declared.parse.Guard as counted
 use Rattle.reading.specs.declared.name.Stretch.{Stretch}

@@ -45,8 +45,10 @@ pub fn same(
     left_chain(text, at, brackets, codes, out, wait, Connective::Same, left)
 }
 
-// Operands joined by `>`, which groups to the right: those before a sign wait, and are joined from the right when the chain ends.
+// Operands joined by `>`, which groups to the right: those before a sign wait, and are joined from the right when the chain ends. Inlined, so
+// that a bracket returns from one call less: a processor foresees only so many returns.
 #[cycle(levels)]
+#[inline(always)]
 fn implies(
     text: &[u8],
     at: &mut Place,

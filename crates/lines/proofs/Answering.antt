@@ -8,7 +8,7 @@ use lib.Seq.{take_all}
 use Rattle.notation.specs.clauses.Cut.{part}
 use Rattle.notation.specs.Reading.{reading}
 use Rattle.notation.specs.Ceilings.{flag_ceiling}
-use Rattle.notation.specs.Refusals.{number_of}
+use Rattle.notation.specs.Numbers.{number_of}
 use Rattle.notation.specs.declared.refusal.Refusal.{Refusal}
 use Rattle.std.specs.Prelude.{Option, Ok, Err}
 use Rattle.guard_check.specs.Check.{Checking, CheckSays}

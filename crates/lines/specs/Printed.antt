@@ -2,7 +2,7 @@
 use Rattle.std.specs.Prelude.{ℕ, zero, suc, ◌+◌, ◌/◌, ◌%◌, Bool, List, [], ◌∷◌, ◌++◌, length, ltb, Ok, Err}
 use Rattle.ground.specs.Choice.{choose}
 use Rattle.notation.specs.Walk.{Flag}
-use Rattle.notation.specs.Refusals.{number_of}
+use Rattle.notation.specs.Numbers.{number_of}
 use Rattle.notation.specs.Reading.{Reading, refusal, guard, reading}
 use Rattle.ground.specs.Bits.{bit}
 use Rattle.ground.specs.Bytes.{bytes}

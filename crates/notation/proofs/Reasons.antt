@@ -1,22 +1,15 @@
--- Two reasons with one number are the same.
-use Prim.Native.Nat.{ℕ}
+-- A reason's number is its place in the table, so that two reasons with one number are the same.
+use Prim.Native.Nat.{ℕ, ◌-◌}
 use mathlib.Core.Path.{◌≡◌, ◌∙◌, refl, sym, ap}
-use mathlib.Core.List.{List, [], ◌∷◌}
 use lib.ListN.{get_or}
 use Rattle.notation.specs.declared.refusal.Reason.{Reason}
 use Rattle.notation.specs.declared.refusal.Reason.TheVariants.{LongText, HighDepth, StrayByte, LongCode, OutOfPlace, ManyBrackets, ManyFlags, ManyConnectives}
 use Rattle.notation.specs.declared.refusal.Reason.TheVariants.{NoState, SmallRoom, NoFlag, MalformedLine, WrongField, WrongVariants, WrongId, NoGap}
-use Rattle.notation.specs.Refusals.{number_of}
+use Rattle.notation.specs.Refusals.{reasons}
+use Rattle.notation.specs.Numbers.{number_of}
 
--- the reasons by their numbers; none has 0
-reasons : List Reason
-reasons =
-    LongText ∷ LongText ∷ HighDepth ∷ StrayByte ∷ LongCode ∷ OutOfPlace ∷ ManyBrackets ∷ ManyFlags ∷ ManyConnectives
-    ∷ NoState ∷ SmallRoom ∷ NoFlag ∷ MalformedLine ∷ WrongField ∷ WrongVariants ∷ WrongId ∷ NoGap
-    ∷ []
-
--- each stands at its number
-reason-at : (r : Reason) → get_or reasons (number_of r) LongText ≡ r
+-- each stands in the table at its number, counted from 1
+pub reason-at : (r : Reason) → get_or reasons (number_of r - 1) LongText ≡ r
 unfolding reasons
 reason-at LongText = refl
 reason-at HighDepth = refl
@@ -36,4 +29,4 @@ reason-at WrongId = refl
 reason-at NoGap = refl
 
 pub number-apart : (r s : Reason) → number_of r ≡ number_of s → r ≡ s
-number-apart r s e = sym (reason-at r) ∙ ap (λ (n : ℕ). get_or reasons n LongText) e ∙ reason-at s
+number-apart r s e = sym (reason-at r) ∙ ap (λ (n : ℕ). get_or reasons (n - 1) LongText) e ∙ reason-at s

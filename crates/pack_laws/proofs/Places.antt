@@ -11,7 +11,8 @@ use lib.Dec.{leb, eqb}
 use borrow.Author.Tests.{leb-false}
 use Rattle.ground.specs.Choice.{choose}
 use Rattle.ground.proofs.Cases.{either, lt-or-ge}
-use Rattle.notation.specs.Refusals.{fault, number_of}
+use Rattle.notation.specs.Numbers.{number_of}
+use Rattle.notation.specs.Refusals.{fault}
 use Rattle.notation.specs.declared.refusal.Reason.{Reason}
 use Rattle.notation.specs.declared.refusal.Reason.TheVariants.{LongText, ManyBrackets, ManyFlags, ManyConnectives}
 use Rattle.notation.specs.declared.refusal.Refusal.{Refusal}

@@ -1,6 +1,7 @@
 -- The faults of a pack: that of the first field that has one, and whatever may be found after it.
 use Rattle.std.specs.Prelude.{ℕ, ◌+◌, ◌≤◌, ◌<◌, ◌≡◌, ◌⊎◌, List}
-use Rattle.notation.specs.Refusals.{fault, number_of}
+use Rattle.notation.specs.Numbers.{number_of}
+use Rattle.notation.specs.Refusals.{fault}
 use Rattle.notation.specs.declared.refusal.Reason.TheVariants.{WrongField}
 use Rattle.notation.specs.declared.refusal.Refusal.{Refusal}
 use Rattle.fields.specs.Fields.{header, Pieces, end, short, field, pieces_at}

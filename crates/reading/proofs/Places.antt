@@ -12,7 +12,7 @@ use Rattle.notation.specs.Tokens.{Code, Token, Tokens, stray, long, code, hash, 
 use Rattle.notation.specs.Tokens.{code_run, coded, hashed, marked, token_of, further, tokens_from, tokens}
 use Rattle.ground.specs.Choice.{choose}
 use Rattle.notation.specs.Walk.{Flag, known, seen, Wanted, operand, after, Outcome, refused, accepted, within, walk}
-use Rattle.notation.specs.Refusals.{number_of}
+use Rattle.notation.specs.Numbers.{number_of}
 use Rattle.notation.specs.declared.refusal.Reason.{Reason}
 use Rattle.notation.specs.declared.refusal.Reason.TheVariants.{ManyBrackets, ManyFlags, ManyConnectives}
 use Rattle.reading.specs.clauses.Parsing.{last_refusal}

@@ -2,7 +2,7 @@
 use Rattle.std.specs.Prelude.{◌^◌, ◌≤◌, ◌<◌, Bool, Result, Ok, Err}
 use Rattle.notation.specs.Ceilings.{text_ceiling, code_ceiling, flag_ceiling, connective_ceiling}
 use Rattle.notation.specs.Triplets.{literal_ceiling}
-use Rattle.notation.specs.Refusals.{number_of}
+use Rattle.notation.specs.Numbers.{number_of}
 use Rattle.notation.specs.declared.refusal.Refusal.{Refusal}
 use Rattle.reading.specs.clauses.Parsing.{last_refusal}
 use Rattle.reading.specs.declared.parse.Guard as counted
