@@ -6,3 +6,4 @@ pub mod Flags
 pub mod Standing
 pub mod Naming
 pub mod Numbering
+pub mod Numbers
