@@ -1,6 +1,6 @@
 // Where the reader stands. The place is lent from function to function.
 ghost use Rattle.std.specs.Prelude.{◌≡◌};
-ghost use Rattle.notation.specs.clauses.Place.{before, RefusedAt};
+ghost use Rattle.notation.specs.clauses.Place.{before, RefusedOnly};
 
 use crate::refusal::{Reason, Refusal, Refused};
 
@@ -69,7 +69,7 @@ impl Place {
 
     // Refused for this reason at this place of the text.
     pub fn refuse(&mut self, reason: Reason, place: usize) -> Refused
-        ensures { RefusedAt reason place self.old self.new }
+        ensures { RefusedOnly reason place self.old self.new }
     {
         self.refusal = Refusal { reason, place };
         Refused
@@ -77,7 +77,7 @@ impl Place {
 
     // Refused for this reason at the token ahead.
     pub fn refuse_ahead(&mut self, reason: Reason) -> Refused
-        ensures { RefusedAt reason self.old.token.start self.old self.new }
+        ensures { RefusedOnly reason self.old.token.start self.old self.new }
     {
         let start = self.token.start;
         self.refuse(reason, start)

@@ -41,7 +41,7 @@ both-returns t c =
 
 pub bracket-returns-then-brackets-ge-BRACKETS : goal.bracket-returns-then-brackets-ge-BRACKETS
 bracket-returns-then-brackets-ge-BRACKETS t c =
-    too-deep c.requires.asks c.requires.at_value c.if-brackets-ge-BRACKETS.true c.refuse_ahead.ensures
+    too-deep c.requires.asks c.requires.at_value c.if-brackets-ge-BRACKETS.true c.refuse_ahead.ensures.now
 
 pub bracket-returns-in_default : goal.bracket-returns-in_default
 bracket-returns-in_default t c =
@@ -265,7 +265,7 @@ plain-returns-in-Truth t c =
 pub plain-returns-in_default : goal.plain-returns-in_default
 plain-returns-in_default t c =
     misplaced c.requires.asks (no-opener _ c.requires.at_value c.in_default.not-Code c.in_default.not-Truth c.in_default.not-Opening)
-    c.refuse_ahead.ensures
+    c.refuse_ahead.ensures.now
 
 pub same-returns-then-not-sign_follows : goal.same-returns-then-not-sign_follows
 same-returns-then-not-sign_follows t c =

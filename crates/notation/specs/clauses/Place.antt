@@ -24,11 +24,15 @@ pub record SameBehind (p p' : Place) : Type 0 where
   pub signs : p'.signs ≡ p.signs
   pub count : p'.count ≡ p.count
 
--- the place holds this refusal now, and the rest is as it was
+-- the place holds this refusal now
 pub record RefusedAt (n : Reason) (s : ℕ) (p p' : Place) : Type 0 where
   pub refusal : p'.refusal ≡ record { reason = n; place = s }
-  pub token : p'.token ≡ p.token
   pub behind : SameBehind p p'
+
+-- the place holds this refusal now, and the rest is as it was
+pub record RefusedOnly (n : Reason) (s : ℕ) (p p' : Place) : Type 0 where
+  pub now : RefusedAt n s p p'
+  pub token : p'.token ≡ p.token
 
 -- the next token from a place of the text on is ahead now, or it is faulty
 pub record CutSays (text : List ℕ) (from : ℕ) (p : Place) (r : Result Unit Refused) (p' : Place) : Type 0 where

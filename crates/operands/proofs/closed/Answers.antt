@@ -9,4 +9,4 @@ returns-then-closing_follows c =
 
 pub returns : goal.returns
 returns c =
-    closed-refused c.requires.at_value (sym c.closing_follows.ensures ∙ c.if-closing_follows.false) c.refuse_ahead.ensures
+    closed-refused c.requires.at_value (sym c.closing_follows.ensures ∙ c.if-closing_follows.false) c.refuse_ahead.ensures.now

@@ -25,7 +25,7 @@ returns-then-flags-ge-FLAGS c =
     let r = c.place_of-place.result in
     let placed = subst (λ x. PlaceOf text c.args.codes.now at.flags x r) c.at-code.ensures.code c.place_of-place.ensures in
     too-many-says (too_many text at c.args.codes.now c.requires.standing c.requires.at_value r placed c.if-place-flags.false
-    c.if-flags-ge-FLAGS.true) c.refuse_ahead.ensures
+    c.if-flags-ge-FLAGS.true) c.refuse_ahead.ensures.now
 
 pub returns : goal.returns
 returns c =

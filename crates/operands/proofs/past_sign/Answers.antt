@@ -5,7 +5,7 @@ use Rattle.operands.proofs.past_sign.Goals as goal
 
 pub returns-then-at-ge-CONNECTIVES : goal.returns-then-at-ge-CONNECTIVES
 returns-then-at-ge-CONNECTIVES c =
-    past-sign-refused c.args.text.now c.args.at.now c.requires.token_fits c.requires.at_value c.if-at-ge-CONNECTIVES.true c.refuse_ahead.ensures
+    past-sign-refused c.args.text.now c.args.at.now c.requires.token_fits c.requires.at_value c.if-at-ge-CONNECTIVES.true c.refuse_ahead.ensures.now
 
 pub returns : goal.returns
 returns c =

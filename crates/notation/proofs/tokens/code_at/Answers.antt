@@ -6,7 +6,7 @@ use Rattle.notation.proofs.tokens.code_at.Goals as goal
 
 pub returns-then-next-start-gt-CODE : goal.returns-then-next-start-gt-CODE
 returns-then-next-start-gt-CODE c =
-    refused-stored c.refuse.ensures (cut-long _ _ _ c.requires c.code_end-next.ensures (omega (
+    refused-stored c.refuse.ensures.now (cut-long _ _ _ c.requires c.code_end-next.ensures (omega (
       arith,
       c.if-next-start-gt-CODE.true,
       c.code_end-next.ensures.run,

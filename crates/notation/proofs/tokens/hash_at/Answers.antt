@@ -7,11 +7,11 @@ use Rattle.notation.proofs.tokens.hash_at.Goals.{else-digit-ne48-via-then-digit-
 
 pub returns-then-text-next : goal.returns-then-text-next
 returns-then-text-next c =
-    refused-stored c.refuse.ensures (cut-lone-hash _ _ c.requires (omega (arith, c.if-text-next.true)))
+    refused-stored c.refuse.ensures.now (cut-lone-hash _ _ c.requires (omega (arith, c.if-text-next.true)))
 
 pub returns-then-digit-ne49 : goal.returns-then-digit-ne49
 returns-then-digit-ne49 c =
-    refused-stored c.refuse-then-digit-ne49.ensures (cut-no-digit _ _ c.requires (omega (arith, c.if-text-next.false)) c.if-digit-ne48.true
+    refused-stored c.refuse-then-digit-ne49.ensures.now (cut-no-digit _ _ c.requires (omega (arith, c.if-text-next.false)) c.if-digit-ne48.true
     c.if-digit-ne49.true)
 
 pub returns : goal.returns

@@ -25,4 +25,4 @@ returns-in_default c =
     let starts : Starts c.args.text.now c.past_spaces-start.result c.class_of.result
     = record { inside = in_text; class = sym c.class_of.ensures; no_space = c.past_spaces-start.ensures.stops in_text } in
     cut_later c.past_spaces-start.ensures
-    (refused-stored c.refuse.ensures (cut-no-mark _ _ c.class_of.result starts c.in_default.not-Code c.in_default.not-Hash c.in_default.not-Mark))
+    (refused-stored c.refuse.ensures.now (cut-no-mark _ _ c.class_of.result starts c.in_default.not-Code c.in_default.not-Hash c.in_default.not-Mark))
